@@ -69,7 +69,7 @@ def named(word: str, *kinds: Kind) -> FileName:
 
 
 # A file that is neither a keytab nor a cache.
-NEITHER = b"xy"
+NEITHER = b"x\0"
 NEITHERS = {(Kind.KEYTAB,): ("keytab", *BEGINS_AS_NO_KEYTAB), (Kind.CACHE,): ("cache", *BEGINS_AS_NO_CACHE),
             (*Kind,): ("cache", *SHOWN_AS_NEITHER)}
 

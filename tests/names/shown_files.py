@@ -66,7 +66,7 @@ CACHES = {
 }
 
 # Files without a time, and their blocks. The first bytes say that `s` is a cache.
-FILES = {"k": keytab(replace(B, timestamp=0)), "c": cache(ends()), "a\nb": keytab(), "e": cache(), "x": b"xy",
+FILES = {"k": keytab(replace(B, timestamp=0)), "c": cache(ends()), "a\nb": keytab(), "e": cache(), "x": b"x\0",
          "z": b"", "d": keytab(replace(B, timestamp=0), b"\0"), "s": cache()[:5], "FILE:k": b"\5\1"}
 KEY, KEYS = of_keys("3|-|aes128|b@R", widths=(4, 5, 6)), "keytab, 1 key of 1 principal\n"
 K, C = f"k: {KEYS}{KEY}", "c: cache of u@R, 1 ticket\n" + of_tickets("-|-|aes128|-|krbtgt/R@R", widths=(4, 5, 7, 6))

@@ -5,6 +5,7 @@ import re
 import shutil
 from collections.abc import Iterator
 
+from computed.terms import known
 from pages.documents import sources
 from runs.commands import COMMANDS
 from runs.harness import TOP, Report, run
@@ -26,6 +27,8 @@ def of_manual(program: str) -> Iterator[tuple[str, set[object]]]:
     shown = re.findall(r"^  ([a-z]+) +(.*)$", helped(program, "ktcheck").partition("\nStatuses:")[0], re.MULTILINE)
     yield "findings", found ^ {*phrases.FINDINGS.items()} | found ^ {*shown}
     options = {option for command in ("", *COMMANDS) for option in offered(program, command)[1]}
+    yield "what is computed", {f"{command} {each}" for command in {*COMMANDS} - {"hold"}
+                               for each in offered(program, command)[1] - known(command) - {"-h", "--help"}}
     yield "options", {each for each in options if not re.search(rf"\bFl {each[1:]}\b", page)}
 
 
@@ -48,7 +51,7 @@ def of_sources() -> Iterator[tuple[str, set[object]]]:
     files = {"no such file", "file too large", "cannot read", "cannot write", "out of memory"}
     in_library = {*phrases.LIBRARY_CODES.values(), phrases.TOO_LONG, phrases.LIBRARY_IN_THE_WAY, "error "}
     numbered = {*phrases.CODES.values(), *phrases.FAULTS.values(), *phrases.LINES.values(),
-                *(phrase for _, phrase in (*phrases.NOT_KEYTABS, *phrases.NOT_CACHES))}
+                *(phrase for _, phrase in (*phrases.NOT_KEYTABS, *phrases.NOT_CACHES)), *phrases.OTHER_FILES}
     known = {*phrases.CAUSES.values(), *phrases.AFTERMATHS.values()}
     own = known - {"NAME.krbfile is in the way", "error NUMBER"}
     yield "the phrases of the definitions", defined ^ (files | in_library | numbered | own | {*phrases.NAMES.values()})

@@ -3,6 +3,7 @@ runs have each of the others."""
 
 import os
 import socket
+from dataclasses import replace
 from errno import ENXIO
 from functools import partial
 from itertools import product
@@ -10,11 +11,12 @@ from itertools import product
 from keytabs.edits import ADD_HOST
 from keytabs.file_names import LIMIT
 from keytabs.ktutil_lines import KEY
-from makers.images import TWO, USUAL
+from makers.images import B, TWO, USUAL, keytab
 from runs.harness import EXPLAIN, Report, folder_of, run
 from runs.terminal import WAYS, run_on_terminal
-from words.explaining import case, failed, link, no_keytab
-from words.phrases import BEGINS_AS_CACHE, CAUSES, LARGE, SEE_HELP, SHORT, code, line_fault, unknown
+from words.explaining import case, copy, failed, link, no_keytab
+from words.phrases import (BEGINS_AS_CACHE, CAUSES, CLASH, LARGE, OTHER_FILES, SEE_HELP, SHORT, TO_REPLACE, code,
+                           line_fault, unknown)
 
 ADD = f"{ADD_HOST}\n".encode()
 
@@ -25,6 +27,11 @@ def socket_in(folder: str) -> None:
         made.bind(os.path.join(folder, "s"))
 
 
+# Files of other programs by their first bytes, in the order of the page.
+OTHERS = [(what, start) for what, starts in zip(OTHER_FILES, (
+    [b"\x1f\x8b"], [b"-----BEGIN"], [b"\xfe\xed\xfe\xed"], [b"v\x81", b"v\x82"], [b"0\x82"], [b"PK\3\4"],
+    [b"BQI", b"BQE"], [b"BQQ", b"BQM"], [b"ab", b"\t \r\n", b"~" * 64 + b"\0"]), strict=True) for start in starts]
+
 CASES = [
     # A message about a file, a line of ktutil and of a script, and replies.
     case("a cache with a newline in its name", ("ktfind", "a\nb", "0", "0", "b@R"), b"\5\4",
@@ -34,6 +41,13 @@ CASES = [
     case("what may be a key is not shown", "ktedit k", TWO, ("line 1: fault 1", line_fault(1)),
          stdin=KEY.upper().encode()),
     case("ccedit", "ccedit k", USUAL, ("", f"refused 5: {code(5, 'ccedit')}"), stdin=b"cut 2\ncut 2\n"),
+    # Files of other programs are known by their first bytes, and `--replace` is hinted at without it alone.
+    *(case(f"{command}: {what}", f"{command} k", image, no_keytab((2, what), kind=kind))
+      for what, image in OTHERS for command, kind in (("klist -k", "keytab"), ("show", "cache"), ("klist", "cache"))),
+    *(copy(options, keytab(B, replace(B, key=b"1" * 16)), target, ("", f"clash: {CLASH}{more}"), out=[f"clash {line}"])
+      for options, target, more, line in (
+          ("", TWO, f"\nkrbfile: {TO_REPLACE}", "47 53 kvno 3 etype 17 b@R"),
+          ("--replace", keytab(B), "", "47 2 kvno 3 etype 17 b@R"))),
     # Files that are not read, and one that is not saved: new_names has others.
     failed(("klist", "-k", "k/x"), "read", "ENOTDIR", TWO),
     failed(("klist", "-k", "x" * 256), "read", "ENAMETOOLONG", TWO),

@@ -50,6 +50,9 @@ SHORT, LISTED_AS_KEYTAB, BEGINS_AS_CACHE, BEGINS_AS_NO_KEYTAB = NOT_KEYTABS = [
 _, BEGINS_AS_KEYTAB, HELD_AS_KEYTAB, SHOWN_AS_NEITHER, BEGINS_AS_NO_CACHE, BAD_HEADER, BAD_DEFAULT = NOT_CACHES = [
     row[::2] for row in listed("Files that are no caches:")]
 
+# What a file is instead, by its first bytes.
+OTHER_FILES = displayed("In place of the last two of 2 a file that is known by its first bytes is named:")
+
 # The library's refusal of an image that is too long: the program says `file too large`.
 TOO_LONG = "it is longer than the limit"
 

@@ -10,7 +10,8 @@ use Rattle.krb_driver.specs.declared.either.Contents.{Contents}
 use Rattle.krb_driver.specs.declared.either.Contents.TheVariants as contents
 use Rattle.krb_driver.specs.declared.error.RunError.{RunError}
 use Rattle.krb_driver.specs.declared.error.RunError.TheVariants.{NeitherToShow}
-use Rattle.krb_driver.specs.Loading.{begins_as_keytab, keytab_in, result_map, result_map_err}
+use Rattle.krb_driver.specs.Beginnings.{begins_as, is_keytab}
+use Rattle.krb_driver.specs.Loading.{keytab_in, not_cache, result_map, result_map_err}
 use Rattle.krb_driver.specs.RunErrors.{load_error}
 
 -- a keytab or a cache
@@ -30,8 +31,8 @@ damage_of (OfCache k) = fault_of (cache_store k)
 -- an image that begins as a keytab is opened as one, and any other as a cache
 abbrev pub contents_of : Order → List ℕ → Result EitherState RunError
 contents_of order image =
-    if begins_as_keytab image then result_map OfKeytab (keytab_in order (Ok image))
-    else result_map OfCache (result_map_err NeitherToShow (cache_result most_bytes image))
+    if is_keytab (begins_as image) then result_map OfKeytab (keytab_in order (Ok image))
+    else result_map OfCache (result_map_err NeitherToShow (result_map_err (not_cache image) (cache_result most_bytes image)))
 
 -- the keytab or the cache in a file, or the error: the file is missing or was not read, or it is neither
 abbrev pub contents_in : Order → Answer → Result EitherState RunError

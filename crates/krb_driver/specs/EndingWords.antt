@@ -1,7 +1,7 @@
 -- The words that explain how a run ended: what follows its message where words are shown.
 use Rattle.std.specs.Prelude.{ℕ, List, [], ◌++◌, Bool, true, false, nat_eq, if◌then◌else◌, Option, None, Some, is_some, option_map, unwrap_or, Ok, Err, codes, decimal, unsigned_abs}
 use Rattle.krb_walk.specs.declared.refusal.Code.{Code}
-use Rattle.krb_walk.specs.declared.refusal.Code.TheVariants.{Damaged, Full, NotAPlace, NotLive}
+use Rattle.krb_walk.specs.declared.refusal.Code.TheVariants.{Damaged, Full, NotAPlace, NotLive, ReadOnly}
 use Rattle.std.specs.List.{flat_map, starts_with}
 use Rattle.krb_walk.specs.declared.fault.Fault.{Fault}
 use Rattle.krb_walk.specs.Phrases.{code_number, fault_number, code_phrase, fault_phrase}
@@ -36,6 +36,9 @@ use Rattle.krb_driver.specs.declared.verdict.Findings.{Findings}
 use Rattle.krb_driver.specs.declared.verdict.Verdict.{Verdict}
 use Rattle.krb_driver.specs.declared.verdict.Verdict.TheVariants.{HiddenFrom, NoEntry, Listed, Replied, Found, NothingToRemove, Clashed}
 use Rattle.krb_driver.specs.declared.first_word.FirstWord.{FirstWord}
+use Rattle.krb_driver.specs.declared.beginning.Beginning.{Beginning}
+use Rattle.krb_driver.specs.declared.beginning.Beginning.TheVariants as begins
+use Rattle.krb_driver.specs.Beginnings.{beginning_phrase}
 use Rattle.krb_driver.specs.FileNames.{shown_name, type_of, untyped}
 use Rattle.krb_driver.specs.FirstWords.{word_text}
 use Rattle.krb_driver.specs.Hints.{hint_words}
@@ -61,6 +64,7 @@ abbrev pub cache_phrase : Code → List ℕ
 cache_phrase NotAPlace = codes "no credential or end stands at this place"
 cache_phrase NotLive = codes "no ticket or configuration entry stands at this place"
 cache_phrase Damaged = code_phrase Damaged
+cache_phrase ReadOnly = codes "version 3 changes by a rewrite: echo rewrite | krbfile ccedit FILE"
 cache_phrase code = keytab_phrase code
 
 -- the phrase for a refusal by a keytab or a cache
@@ -73,30 +77,36 @@ abbrev pub nothing_phrase : FileKind → List ℕ
 nothing_phrase Keytab = codes "no entry has what was asked for"
 nothing_phrase kind = codes "no ticket has what was asked for"
 
--- why an image is not a keytab, by whether it begins as a cache
-abbrev pub no_keytab_phrase : KtOpenFault → Bool → List ℕ
-no_keytab_phrase kt.BadVersion true = codes "it begins as a credential cache"
-no_keytab_phrase fault is_cache = kt_phrase fault
+-- why an image is not a keytab, by what it begins as
+abbrev pub no_keytab_phrase : KtOpenFault → Beginning → List ℕ
+no_keytab_phrase kt.BadVersion begins.Cache = codes "it begins as a credential cache"
+no_keytab_phrase kt.BadVersion other = beginning_phrase other (kt_phrase kt.BadVersion)
+no_keytab_phrase fault other = kt_phrase fault
 
--- why a file that is listed as a keytab is none, by whether it begins as a cache
-abbrev pub list_phrase : KtOpenFault → Bool → List ℕ
-list_phrase kt.BadVersion true = codes "it begins as a credential cache; list it without -k"
-list_phrase fault is_cache = no_keytab_phrase fault is_cache
+-- why a file that is listed as a keytab is none, by what it begins as
+abbrev pub list_phrase : KtOpenFault → Beginning → List ℕ
+list_phrase kt.BadVersion begins.Cache = codes "it begins as a credential cache; list it without -k"
+list_phrase fault other = no_keytab_phrase fault other
 
--- why an image is not a cache, by whether it begins as a keytab
-abbrev pub no_cache_phrase : CcOpenFault → Bool → List ℕ
-no_cache_phrase cc.BadVersion true = codes "a keytab (list it with -k), or a cache of version 1 or 2 (not read)"
-no_cache_phrase fault is_keytab = cc_phrase fault
+-- why an image is not a cache, by what it begins as
+abbrev pub no_cache_phrase : CcOpenFault → Beginning → List ℕ
+no_cache_phrase cc.BadVersion begins.Keytab = codes "a keytab (list it with -k), or a cache of version 1 or 2 (not read)"
+no_cache_phrase cc.BadVersion other = beginning_phrase other (cc_phrase cc.BadVersion)
+no_cache_phrase fault other = cc_phrase fault
 
--- why a file that does not begin as a keytab is no cache
-abbrev pub show_phrase : CcOpenFault → List ℕ
-show_phrase cc.BadVersion = codes "it does not begin as a keytab or a cache"
-show_phrase fault = cc_phrase fault
+-- why a file to show is neither a keytab nor a cache
+abbrev pub neither_phrase : List ℕ
+neither_phrase = codes "it does not begin as a keytab or a cache"
 
--- why a file that is held as a cache is none, by whether it begins as a keytab
-abbrev pub hold_phrase : CcOpenFault → Bool → List ℕ
-hold_phrase cc.BadVersion true = codes "a keytab (hold it with -k), or a cache of version 1 or 2 (not read)"
-hold_phrase fault is_keytab = no_cache_phrase fault is_keytab
+-- why a file that does not begin as a keytab is no cache, by what it begins as
+abbrev pub show_phrase : CcOpenFault → Beginning → List ℕ
+show_phrase cc.BadVersion other = beginning_phrase other neither_phrase
+show_phrase fault other = cc_phrase fault
+
+-- why a file that is held as a cache is none, by what it begins as
+abbrev pub hold_phrase : CcOpenFault → Beginning → List ℕ
+hold_phrase cc.BadVersion begins.Keytab = codes "a keytab (hold it with -k), or a cache of version 1 or 2 (not read)"
+hold_phrase fault other = no_cache_phrase fault other
 
 -- what is wrong with a line of a script, or of ktutil if a line number is given
 abbrev pub line_fault_phrase : Option ℕ → LineFault → List ℕ
@@ -218,11 +228,11 @@ error_words file line details error.TypedName = typed_words line file
 error_words file line details error.FileTooLarge = phrase_line line too_large
 error_words file line details error.FileNotRead = cause_words file line details
 error_words file line details error.FileNotWritten = cause_words file line details
-error_words file line details (error.NotAKeytab why) = phrase_line line (no_keytab_phrase why.fault why.is_cache)
-error_words file line details (error.NotAKeytabToList why) = phrase_line line (list_phrase why.fault why.is_cache)
-error_words file line details (error.NotACache why) = phrase_line line (no_cache_phrase why.fault why.is_keytab)
-error_words file line details (error.NotACacheToHold why) = phrase_line line (hold_phrase why.fault why.is_keytab)
-error_words file line details (error.NeitherToShow fault) = phrase_line line (show_phrase fault)
+error_words file line details (error.NotAKeytab why) = phrase_line line (no_keytab_phrase why.fault why.begins)
+error_words file line details (error.NotAKeytabToList why) = phrase_line line (list_phrase why.fault why.begins)
+error_words file line details (error.NotACache why) = phrase_line line (no_cache_phrase why.fault why.begins)
+error_words file line details (error.NotACacheToHold why) = phrase_line line (hold_phrase why.fault why.begins)
+error_words file line details (error.NeitherToShow why) = phrase_line line (show_phrase why.fault why.begins)
 error_words file line details (error.Refused kind code) = phrase_line line (refusal_phrase kind code)
 error_words file line details error.NothingToCopy = phrase_line line (nothing_phrase Keytab)
 error_words file line details (error.NothingSelected kind) = phrase_line line (nothing_phrase kind)
@@ -231,12 +241,17 @@ error_words file line details error.OutputIsTerminal = phrase_line line (codes "
 error_words file line details error.ClockNotRead = phrase_line line (codes "the clock is before 1970 or after 2106, or failed")
 error_words file line details error.NoMemory = []
 
+-- the words for who did not give `--replace`
+abbrev pub replace_words : Bool → List ℕ
+replace_words true = []
+replace_words false = codes "krbfile: --replace takes FROM's key\n"
+
 -- the words that explain the verdict of a run over that file, but for what replies or findings have
 abbrev pub verdict_words : List ℕ → Option ℕ → Verdict → List ℕ
 verdict_words file line (HiddenFrom place) = hidden_words file line place
 verdict_words file line (NothingToRemove kind) = phrase_line line (nothing_phrase kind)
 verdict_words file line NoEntry = words_line line (shown_name file ++ codes " has no entry\n")
-verdict_words file line Clashed = phrase_line line (codes "clash: TO has another key for this name, version and type") ++ codes "krbfile: --replace takes FROM's key\n"
+verdict_words file line (Clashed replaces) = phrase_line line (codes "clash: TO has another key for this name, version and type") ++ replace_words replaces
 verdict_words file line (Listed fault) = listed_words file fault
 verdict_words file line verdict = []
 

@@ -3,6 +3,7 @@ pub mod FileNames
 pub mod Messages
 pub mod FirstWords
 pub mod RunErrors
+pub mod Beginnings
 pub mod Reported
 pub mod Hints
 pub mod EndingWords

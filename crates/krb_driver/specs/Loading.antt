@@ -1,6 +1,5 @@
 -- What files and the standard input give, and what is opened of it.
-use Rattle.std.specs.Prelude.{◌≡◌, ◌⊎◌, ℕ, nat_eq, Bool, true, false, ◌||◌, List, [], ◌∷◌, Result, Ok, Err, is_some, if◌then◌else◌, Option, None, Some, ◌≢◌, ◌+◌, ◌<◌, ◌≤◌, length, IfOk, IfErr, IfSome, IsErrOf}
-use Rattle.std.specs.List.{starts_with}
+use Rattle.std.specs.Prelude.{◌≡◌, ◌⊎◌, ℕ, Bool, true, false, ◌||◌, List, [], Result, Ok, Err, is_some, if◌then◌else◌, Option, None, Some, ◌≢◌, ◌+◌, ◌<◌, ◌≤◌, length, IfOk, IfErr, IfSome, IsErrOf}
 use Rattle.krb_wire.specs.declared.format.KtFormat.TheVariants.{V2}
 use Rattle.krb_wire.specs.declared.format.Order.{Order}
 use Rattle.krb_keytab.specs.declared.open.KtOpenFault.{KtOpenFault}
@@ -16,6 +15,7 @@ use Rattle.krb_driver.specs.declared.loading.NotCache.{NotCache}
 use Rattle.krb_driver.specs.declared.loading.NoKeytab.TheVariants.{Load, Open}
 use Rattle.krb_driver.specs.declared.error.RunError.{RunError}
 use Rattle.krb_driver.specs.declared.error.RunError.TheVariants.{NotACache, Refused}
+use Rattle.krb_driver.specs.Beginnings.{begins_as}
 use Rattle.krb_driver.specs.RunErrors.{load_error, list_error, no_keytab_error}
 use Rattle.krb_walk.specs.Store.{fault_of}
 use Rattle.krb_walk.specs.declared.refusal.Code.{Code}
@@ -37,21 +37,13 @@ abbrev pub result_map_err : {X E D : Type 0} → (E → D) → Result X E → Re
 result_map_err why (Ok x) = Ok x
 result_map_err why (Err e) = Err (why e)
 
--- an image begins as a cache: with the bytes 5 3 or 5 4
-abbrev pub begins_as_cache : List ℕ → Bool
-begins_as_cache image = starts_with nat_eq image (5 ∷ 3 ∷ []) || starts_with nat_eq image (5 ∷ 4 ∷ [])
-
--- an image begins as a keytab, or as a cache of version 1 or 2: with the bytes 5 1 or 5 2
-abbrev pub begins_as_keytab : List ℕ → Bool
-begins_as_keytab image = starts_with nat_eq image (5 ∷ 1 ∷ []) || starts_with nat_eq image (5 ∷ 2 ∷ [])
-
 -- why an image is not a keytab
 abbrev pub not_keytab : List ℕ → KtOpenFault → NoKeytab
-not_keytab image fault = Open (record { fault = fault; is_cache = begins_as_cache image })
+not_keytab image fault = Open (record { fault = fault; begins = begins_as image })
 
 -- why an image is not a cache
 abbrev pub not_cache : List ℕ → CcOpenFault → NotCache
-not_cache image fault = record { fault = fault; is_keytab = begins_as_keytab image }
+not_cache image fault = record { fault = fault; begins = begins_as image }
 
 -- the keytab that a load gives, or why there is none
 abbrev pub keytab_of : Order → Result (List ℕ) LoadFault → Result KeytabState NoKeytab

@@ -47,7 +47,6 @@ pub data MistakeParts : Type 0 where
   NoFinding : List ℕ → MistakeParts
   BadName : List ℕ → NameFault → MistakeParts
   NothingSelects : List ℕ → MistakeParts
-  LateExplain : MistakeParts
   NotText : MistakeParts
   VariableNotText : List ℕ → MistakeParts
 
@@ -71,7 +70,6 @@ mistake_parts (mistake.NoTime word) = NoTime word.now
 mistake_parts (mistake.NoFinding word) = NoFinding word.now
 mistake_parts (mistake.BadName word fault) = BadName word.now fault
 mistake_parts (mistake.NothingSelects options) = NothingSelects options.now
-mistake_parts mistake.LateExplain = LateExplain
 mistake_parts mistake.NotText = NotText
 mistake_parts (mistake.VariableNotText name) = VariableNotText name.now
 
@@ -96,7 +94,6 @@ mistake_line (NoTime word) rest = quoted_word word ++ (codes " is no " ++ (codes
 mistake_line (NoFinding word) rest = quoted_word word ++ (codes " is no " ++ (codes "finding" ++ rest))
 mistake_line (BadName word fault) rest = quoted_word word ++ (codes " has " ++ (name_fault_phrase fault ++ rest))
 mistake_line (NothingSelects options) rest = codes "nothing selects; give " ++ (shown_word options ++ rest)
-mistake_line LateExplain rest = codes "--explain stands before the command" ++ rest
 mistake_line NotText rest = codes "an argument is not UTF-8" ++ rest
 mistake_line (VariableNotText name) rest = shown_word name ++ (codes " is not UTF-8" ++ rest)
 

@@ -5,10 +5,11 @@ ghost use Rattle.krb_driver.specs.Commands.{GivesOf, Opens, opened};
 ghost use Rattle.krb_driver.specs.Either.{contents_in, contents_of, state_of};
 ghost use Rattle.krb_driver.specs.Loading.{Gives, result_map};
 
+use crate::beginning::begins_as;
 use crate::command::FileError;
 use crate::error::RunError;
 use crate::file_name::FileName;
-use crate::loading::{begins_as_keytab, cache_of, keytab_of};
+use crate::loading::{cache_of, keytab_of};
 use crate::opening::other_type;
 use krb_ccache::Ccache;
 use krb_files::Files;
@@ -27,7 +28,7 @@ pub enum Contents<A: Allocator> {
 fn contents_of<A: Allocator>(v1_order: Order, image: Vec<u8, A>) -> Result<Contents<A>, RunError>
     ensures { result_map state_of result ≡ contents_of v1_order image.items }
 {
-    if begins_as_keytab(&image) {
+    if begins_as(&image).is_keytab() {
         return match keytab_of(v1_order, image) {
             Ok(keytab) => Ok(Contents::Keytab(keytab)),
             Err(why) => Err(RunError::from(why)),
@@ -35,7 +36,7 @@ fn contents_of<A: Allocator>(v1_order: Order, image: Vec<u8, A>) -> Result<Conte
     }
     match cache_of(image) {
         Ok(cache) => Ok(Contents::Cache(cache)),
-        Err(why) => Err(RunError::NeitherToShow(why.fault)),
+        Err(why) => Err(RunError::NeitherToShow(why)),
     }
 }
 

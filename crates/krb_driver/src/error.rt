@@ -10,7 +10,6 @@ use crate::file_name::NameSource;
 use crate::first_word::FirstWord;
 use crate::loading::{NoKeytab, NotCache, NotKeytab};
 use crate::verdict::{FileKind, Verdict};
-use krb_ccache::CcOpenFault;
 use krb_files::{Aftermath, LoadFault, OutFault, SaveFault};
 use krb_text::{LineFault, ScriptRefusal};
 use krb_walk::{Code, Fault};
@@ -49,7 +48,7 @@ pub enum RunError {
     /// Of a file that was to be held as one.
     NotACacheToHold(NotCache),
     /// Of a file to show, which does not begin as a keytab and is no cache.
-    NeitherToShow(CcOpenFault),
+    NeitherToShow(NotCache),
     /// A file of that kind refused what the run was to do.
     Refused(FileKind, Code),
     /// No entry of the file is selected, so there is nothing to copy.

@@ -1,6 +1,7 @@
 //! What a command is, the driver that runs one, and what a run reports when it fails.
 #![tactic(auto)]
 
+mod beginning;
 mod command;
 mod command_line;
 mod either;

@@ -7,9 +7,10 @@ ghost use Rattle.krb_keytab.specs.Store.{empty, image_of, open_result};
 ghost use Rattle.krb_wire.specs.declared.format.KtFormat.TheVariants.{V2};
 ghost use Rattle.krb_driver.specs.declared.loading.NoKeytab.TheVariants.{Load};
 ghost use Rattle.krb_files.specs.Loading.{most_bytes};
-ghost use Rattle.krb_driver.specs.Loading.{Gives, GivesOrRunsOut, begins_as_cache, begins_as_keytab, cache_of, keytab_of, keytab_or_fresh, keytab_or_new, new_unless, not_cache, not_keytab, result_map, result_map_err, GivesInput};
+ghost use Rattle.krb_driver.specs.Loading.{Gives, GivesOrRunsOut, cache_of, keytab_of, keytab_or_fresh, keytab_or_new, new_unless, not_cache, not_keytab, result_map, result_map_err, GivesInput};
 ghost use Rattle.krb_files.specs.Files.{answer_of};
 
+use crate::beginning::{Beginning, begins_as};
 use crate::error::RunError;
 use krb_ccache::{CcOpenFault, Ccache};
 use krb_files::{Files, LoadFault, WatchedReader, load};
@@ -27,18 +28,18 @@ pub enum NoKeytab {
     Open(NotKeytab),
 }
 
-/// Why an image is not a keytab, and whether it begins as a cache.
+/// Why an image is not a keytab, and what it begins as.
 #[derive(Clone, Copy, PartialEq, Eq)]
 pub struct NotKeytab {
     pub fault: KtOpenFault,
-    pub is_cache: bool,
+    pub begins: Beginning,
 }
 
-/// Why an image is not a cache, and whether it begins as a keytab or as a cache of version 1 or 2.
+/// Why an image is not a cache, and what it begins as.
 #[derive(Clone, Copy)]
 pub struct NotCache {
     pub fault: CcOpenFault,
-    pub is_keytab: bool,
+    pub begins: Beginning,
 }
 
 impl From<LoadFault> for NoKeytab {
@@ -47,19 +48,6 @@ impl From<LoadFault> for NoKeytab {
     fn from(fault: LoadFault) -> NoKeytab {
         NoKeytab::Load(fault)
     }
-}
-
-fn begins_as_cache(image: &[u8]) -> bool
-    ensures { result ≡ begins_as_cache image.now }
-{
-    image.starts_with(&[5, 3]) || image.starts_with(&[5, 4])
-}
-
-/// Returns whether an image begins as a keytab, or as a cache of version 1 or 2.
-pub fn begins_as_keytab(image: &[u8]) -> bool
-    ensures { result ≡ begins_as_keytab image.now }
-{
-    image.starts_with(&[5, 1]) || image.starts_with(&[5, 2])
 }
 
 /// Opens an image as a keytab. `v1_order` is the byte order of version 1.
@@ -73,7 +61,7 @@ pub fn keytab_of<A: Allocator>(v1_order: Order, image: Vec<u8, A>) -> Result<Key
         Ok(keytab) => Ok(keytab),
         Err(refused) => Err(NoKeytab::Open(NotKeytab {
             fault: refused.why,
-            is_cache: begins_as_cache(&refused.image),
+            begins: begins_as(&refused.image),
         })),
     }
 }
@@ -165,7 +153,7 @@ pub fn cache_of<A: Allocator>(image: Vec<u8, A>) -> Result<Ccache<A>, NotCache>
         Ok(cache) => Ok(cache),
         Err(refused) => Err(NotCache {
             fault: refused.why,
-            is_keytab: begins_as_keytab(&refused.image),
+            begins: begins_as(&refused.image),
         }),
     }
 }

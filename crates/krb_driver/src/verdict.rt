@@ -48,8 +48,9 @@ pub enum Verdict {
     Without,
     /// Two keytabs do not have the same keys.
     Differ,
-    /// An entry to copy has the name, kvno and enctype of one that is there, with another key.
-    Clashed,
+    /// An entry to copy has the name, kvno and enctype of one that is there, with another key, which stays, of a run that
+    /// replaces such keys, too.
+    Clashed { replaces: bool },
 }
 
 impl Verdict {

@@ -42,15 +42,15 @@ abbrev pub copied_verdict : Run → Verdict
 copied_verdict run = hiding (hides_added run.keytab run.places) Well
 
 -- the lines of a run are printed, and its keytab is saved if something was copied; after a clash nothing is saved, and only a dry run prints more than the clashes
-abbrev pub copied_effect : Bool → List ℕ → Result Run Code → Effect
-copied_effect dry_run to (Err code) = Fails to (Refused Keytab code)
-copied_effect dry_run to (Ok run) =
-    if has_lines run.clashes then Displays to (text (if dry_run then run.text else run.clashes) Clashed)
-    else (if has_lines run.text then saves_unless dry_run to (image_of run.keytab) run.text (copied_verdict run) else Displays to (text run.text Well))
+abbrev pub copied_effect : {A : Type 0} → CopyOptions A → List ℕ → Result Run Code → Effect
+copied_effect o to (Err code) = Fails to (Refused Keytab code)
+copied_effect o to (Ok run) =
+    if has_lines run.clashes then Displays to (text (if o.dry_run then run.text else run.clashes) (Clashed o.replace))
+    else (if has_lines run.text then saves_unless o.dry_run to (image_of run.keytab) run.text (copied_verdict run) else Displays to (text run.text Well))
 
 -- TO is held, unless it is a dry run, and opened; the entries are copied into its keytab, under the new name if there is one
 abbrev pub copies_to : {A : Type 0} → CopyOptions A → FileName → List PlacedEntry → CommandPlan
-copies_to o to xs = holds (not o.dry_run) to (opens to (whole_or_empty o.v1_order to.in_place) (λ k. Ends (copied_effect o.dry_run to.name.now (copy_run o.replace (asked_as (option_map principal_parts o.new_name) xs) k))))
+copies_to o to xs = holds (not o.dry_run) to (opens to (whole_or_empty o.v1_order to.in_place) (λ k. Ends (copied_effect o to.name.now (copy_run o.replace (asked_as (option_map principal_parts o.new_name) xs) k))))
 
 -- the entries are copied to TO, unless some are asked for and there are none
 abbrev pub copies_from : {A : Type 0} → CopyOptions A → FileName → FileName → List PlacedEntry → CommandPlan

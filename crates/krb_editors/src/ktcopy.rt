@@ -136,13 +136,18 @@ fn finds_none<B: Allocator>(selection: &Selection<B>, entries: &[(u32, EntryView
 }
 
 // Returns what to print if an entry clashed: all lines in a dry run, and otherwise those of the clashes.
-fn clashed<A: Allocator>(dry_run: bool, text: Vec<u8, A>, clashes: Vec<u8, A>) -> Output<A>
-    ensures text { result.text.items ≡ (if dry_run then text.items else clashes.items) }
-    ensures verdict { result.verdict ≡ Clashed }
+fn clashed<A: Allocator, B: Allocator>(
+    options: &CopyOptions<B>,
+    text: Vec<u8, A>,
+    clashes: Vec<u8, A>,
+) -> Output<A>
+    ensures text { result.text.items ≡ (if options.now.dry_run then text.items else clashes.items) }
+    ensures verdict { result.verdict ≡ Clashed options.now.replace }
 {
+    let replaces = options.replace;
     Output {
-        text: if dry_run { text } else { clashes },
-        verdict: Verdict::Clashed,
+        text: if options.dry_run { text } else { clashes },
+        verdict: Verdict::Clashed { replaces },
     }
 }
 
@@ -161,9 +166,8 @@ fn made<'a, A: Allocator + Copy, B: Allocator>(
     copied: Copied<A>,
 ) -> Result<Made<A, Output<A>>, FileError<'a>>
     ensures { (run : Run) → IsRunOf (Ok run) copied.text.items copied.clashes.items copied.places.items copied.keytab.state
-        → text_effect command.now.to.name.now result ≡ copied_effect command.now.options.now.dry_run command.now.to.name.now (Ok run) }
+        → text_effect command.now.to.name.now result ≡ copied_effect command.now.options.now command.now.to.name.now (Ok run) }
 {
-    let dry_run = command.options.dry_run;
     let Copied {
         text,
         clashes,
@@ -171,14 +175,14 @@ fn made<'a, A: Allocator + Copy, B: Allocator>(
         keytab,
     } = copied;
     if !clashes.is_empty() {
-        return Ok(Made::Shows(clashed(dry_run, text, clashes)));
+        return Ok(Made::Shows(clashed(command.options, text, clashes)));
     }
     if text.is_empty() {
         let verdict = Verdict::Well;
         return Ok(Made::Shows(Output { text, verdict }));
     }
     let output = told(&keytab, &places, text);
-    if dry_run {
+    if command.options.dry_run {
         return Ok(Made::Shows(output));
     }
     Ok(Made::Saves(keytab.into_image(), output))
@@ -191,7 +195,7 @@ fn copy<'a, A: Allocator + Copy, B: Allocator>(
     entries: &[(u32, EntryView<'_>)],
     to: Keytab<A>,
 ) -> Result<Made<A, Output<A>>, FileError<'a>>
-    ensures { IsMade (copied_effect command.now.options.now.dry_run command.now.to.name.now
+    ensures { IsMade (copied_effect command.now.options.now command.now.to.name.now
         (copy_run command.now.options.now.replace
         (asked_as (option_map principal_parts command.now.options.now.new_name) entries.now) to.state)) (text_effect command.now.to.name.now result) }
 {

@@ -35,7 +35,6 @@ pub enum Mistake<'a> {
     BadName(&'a str, NameFault),
     /// None of these options is given.
     NothingSelects(&'a str),
-    LateExplain,
     NotText,
     /// A variable of the environment.
     VariableNotText(&'a str),

@@ -97,7 +97,6 @@ fn mistake_pieces(mistake: Mistake<'_>) -> Line<'_>
         Mistake::NoFinding(word) => quoted(word, " is no ", "finding"),
         Mistake::BadName(name, fault) => quoted(name, " has ", fault.phrase()),
         Mistake::NothingSelects(options) => before("nothing selects; give ", options),
-        Mistake::LateExplain => alone("--explain stands before the command"),
         Mistake::NotText => alone("an argument is not UTF-8"),
         Mistake::VariableNotText(name) => after(name, " is not UTF-8"),
     }

@@ -64,11 +64,10 @@ impl Said {
             RunError::NotAKeytab(why) | RunError::NotAKeytabToList(why) => {
                 Said::numbered("not a keytab (", why.fault.number(), ")")
             }
-            RunError::NotACache(why) | RunError::NotACacheToHold(why) => {
+            RunError::NotACache(why)
+            | RunError::NotACacheToHold(why)
+            | RunError::NeitherToShow(why) => {
                 Said::numbered("not a cache (", why.fault.number(), ")")
-            }
-            RunError::NeitherToShow(fault) => {
-                Said::numbered("not a cache (", fault.number(), ")")
             }
             RunError::Refused(_, code) => Said::refused(code),
             RunError::NothingToCopy => Said::refused(Code::NotFound),

@@ -2,8 +2,9 @@
 
 ghost use Rattle.std.specs.Prelude.{◌≡◌, option_map};
 ghost use Rattle.krb_driver.specs.Messages.{phrase_line, words_line, piece_text, pieces_text};
-ghost use Rattle.krb_driver.specs.EndingWords.{cache_phrase, cause_words, error_words, fault_with, hold_phrase, keytab_phrase, line_fault_phrase, list_phrase, listed_words, no_cache_phrase, no_keytab_phrase, nothing_phrase, refusal_phrase, show_phrase, unknown_words, verdict_words, way_words};
+ghost use Rattle.krb_driver.specs.EndingWords.{cache_phrase, cause_words, error_words, fault_with, hold_phrase, keytab_phrase, line_fault_phrase, list_phrase, listed_words, no_cache_phrase, no_keytab_phrase, nothing_phrase, refusal_phrase, replace_words, show_phrase, unknown_words, verdict_words, way_words};
 
+use crate::beginning::Beginning;
 use crate::error::RunError;
 use crate::first_word::FirstWord;
 use crate::loading::{NotCache, NotKeytab};
@@ -46,6 +47,7 @@ fn cache_phrase(code: Code) -> &'static str
         Code::NotAPlace => "no credential or end stands at this place",
         Code::NotLive => "no ticket or configuration entry stands at this place",
         Code::Damaged => code.phrase(),
+        Code::ReadOnly => "version 3 changes by a rewrite: echo rewrite | krbfile ccedit FILE",
         code => keytab_phrase(code),
     }
 }
@@ -72,52 +74,58 @@ fn nothing_phrase(kind: FileKind) -> &'static str
 
 // Returns why an image is not a keytab.
 fn no_keytab_phrase(why: NotKeytab) -> &'static str
-    ensures { result.now ≡ no_keytab_phrase why.fault why.is_cache }
+    ensures { result.now ≡ no_keytab_phrase why.fault why.begins }
 {
-    match (why.fault, why.is_cache) {
-        (KtOpenFault::BadVersion, true) => "it begins as a credential cache",
+    match (why.fault, why.begins) {
+        (KtOpenFault::BadVersion, Beginning::Cache) => "it begins as a credential cache",
+        (KtOpenFault::BadVersion, other) => other.phrase_or(KtOpenFault::BadVersion.phrase()),
         (fault, _) => fault.phrase(),
     }
 }
 
 // Like `no_keytab_phrase`, for a file that is listed as a keytab.
 fn list_phrase(why: NotKeytab) -> &'static str
-    ensures { result.now ≡ list_phrase why.fault why.is_cache }
+    ensures { result.now ≡ list_phrase why.fault why.begins }
 {
-    match (why.fault, why.is_cache) {
-        (KtOpenFault::BadVersion, true) => "it begins as a credential cache; list it without -k",
+    match (why.fault, why.begins) {
+        (KtOpenFault::BadVersion, Beginning::Cache) => {
+            "it begins as a credential cache; list it without -k"
+        }
         _ => no_keytab_phrase(why),
     }
 }
 
 // Returns why an image is not a cache.
 fn no_cache_phrase(why: NotCache) -> &'static str
-    ensures { result.now ≡ no_cache_phrase why.fault why.is_keytab }
+    ensures { result.now ≡ no_cache_phrase why.fault why.begins }
 {
-    match (why.fault, why.is_keytab) {
-        (CcOpenFault::BadVersion, true) => {
+    match (why.fault, why.begins) {
+        (CcOpenFault::BadVersion, Beginning::Keytab) => {
             "a keytab (list it with -k), or a cache of version 1 or 2 (not read)"
         }
+        (CcOpenFault::BadVersion, other) => other.phrase_or(CcOpenFault::BadVersion.phrase()),
         (fault, _) => fault.phrase(),
     }
 }
 
 // Returns why an image that does not begin as a keytab is no cache.
-fn show_phrase(fault: CcOpenFault) -> &'static str
-    ensures { result.now ≡ show_phrase fault }
+fn show_phrase(why: NotCache) -> &'static str
+    ensures { result.now ≡ show_phrase why.fault why.begins }
 {
-    match fault {
-        CcOpenFault::BadVersion => "it does not begin as a keytab or a cache",
+    match why.fault {
+        CcOpenFault::BadVersion => why
+            .begins
+            .phrase_or("it does not begin as a keytab or a cache"),
         fault => fault.phrase(),
     }
 }
 
 // Like `no_cache_phrase`, for a file that is held as a cache.
 fn hold_phrase(why: NotCache) -> &'static str
-    ensures { result.now ≡ hold_phrase why.fault why.is_keytab }
+    ensures { result.now ≡ hold_phrase why.fault why.begins }
 {
-    match (why.fault, why.is_keytab) {
-        (CcOpenFault::BadVersion, true) => {
+    match (why.fault, why.begins) {
+        (CcOpenFault::BadVersion, Beginning::Keytab) => {
             "a keytab (hold it with -k), or a cache of version 1 or 2 (not read)"
         }
         _ => no_cache_phrase(why),
@@ -219,11 +227,21 @@ pub fn error_words<'a>(
         RunError::NotAKeytabToList(why) => phrase(line, list_phrase(why)),
         RunError::NotACache(why) => phrase(line, no_cache_phrase(why)),
         RunError::NotACacheToHold(why) => phrase(line, hold_phrase(why)),
-        RunError::NeitherToShow(fault) => phrase(line, show_phrase(fault)),
+        RunError::NeitherToShow(why) => phrase(line, show_phrase(why)),
         RunError::OutputIsTerminal => phrase(line, "the image is for a program; give it a pipe"),
         RunError::ClockNotRead => phrase(line, "the clock is before 1970 or after 2106, or failed"),
         RunError::NoMemory => nothing(),
     }
+}
+
+// Returns the words for who did not give `--replace`.
+fn replace_words(replaces: bool) -> &'static str
+    ensures { result.now ≡ replace_words replaces }
+{
+    if replaces {
+        return "";
+    }
+    "krbfile: --replace takes FROM's key\n"
 }
 
 /// Returns the words that explain a verdict, but for what replies or findings have.
@@ -234,11 +252,11 @@ pub fn verdict_words(verdict: Verdict, file: &[u8], line: Option<u64>) -> Line<'
         Verdict::HiddenFrom(place) => hidden_words(file, line, place),
         Verdict::NothingToRemove(kind) => phrase(line, nothing_phrase(kind)),
         Verdict::NoEntry => words(line, Name(file), Text(" has no entry")),
-        Verdict::Clashed => words_before(
+        Verdict::Clashed { replaces } => words_before(
             line,
             Text("clash: TO has another key for this name, version and type"),
             NONE,
-            "krbfile: --replace takes FROM's key\n",
+            replace_words(replaces),
         ),
         Verdict::Listed(fault) => listed_words(file, fault),
         Verdict::Well
