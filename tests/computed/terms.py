@@ -35,7 +35,13 @@ TIMED, ADDING = {"show", "list", "silent", "age", "older", "expired"}, (b"add_en
 
 
 class NotComputed(Exception):
-    """A run is none that the definitions compute."""
+    """The reason why a run is none that the definitions compute."""
+
+
+def known(command: str) -> set[str]:
+    """Returns the options of a command that are computed, as help has them."""
+    letters = LETTERS.get(command, {})
+    return {*(f"-{letter[0]}" for letter in letters), *(f"--{name.rstrip('=')}" for name in (*LONG, *letters.values()))}
 
 
 def pairs(items: list[tuple[str, str]]) -> str:
@@ -48,16 +54,17 @@ class Words:
 
     def __init__(self, case: Case) -> None:
         words = [word.decode("latin-1") if isinstance(word, bytes) else word for word in case.words]
-        self.explains = words[:1] == [EXPLAIN]
-        self.command, *rest = words[self.explains:]
+        end = words.index("--") if "--" in words else len(words)
+        self.explains = EXPLAIN in words[:end]
+        self.command, *rest = [word for at, word in enumerate(words) if word != EXPLAIN or at > end]
         if self.command not in LETTERS:
-            raise NotComputed
+            raise NotComputed(f"the command {self.command}" if self.command == "hold" else "help or the version")
         letters = LETTERS[self.command]
         names = [name + "=" * (":" in letter) for letter, name in letters.items()]
         try:
             options, operands = gnu_getopt(rest, "".join(letters), [*LONG, *names])
         except GetoptError as error:
-            raise NotComputed from error
+            raise NotComputed("an option that the command has not") from error
         long = {f"-{letter[0]}": name for letter, name in letters.items()}
         those = [(long.get(word, word[2:]), value) for word, value in options]
         takes = {name[:-1] for name in (*LONG, *names) if "=" in name}
@@ -66,7 +73,7 @@ class Words:
         named = operands[:1] if self.command == "ktfind" else operands
         # The definitions have a file for each name, and do not know paths.
         if bool(operands) != bool(operand) or any("/" in it for it in named) or b" ./" in case.stdin:
-            raise NotComputed
+            raise NotComputed("a path, or a default name")
         self.values = [each for each in those if each[0] in takes]
         self.values += [(operand[min(nth, len(operand) - 1)], it) for nth, it in enumerate(operands)]
 
@@ -77,7 +84,7 @@ def term_of(case: Case) -> str:
     is_timed = TIMED & {words.command, *words.flags, *(name for name, _ in words.values)} or (
         words.command == "ktutil" and any(word in case.stdin for word in ADDING))
     if case.clock is None and is_timed:
-        raise NotComputed
+        raise NotComputed("the system's clock")
     command = next((it for flag, it in OTHERS.items() if flag in words.flags), words.command)
     files = pairs([(name, bytes_of_digits(image)) for name, image in case.files.items()])
     parts = {"explains": str(words.explains).lower(), "mode": str(case.mode), "clock": str(case.clock or 0)}

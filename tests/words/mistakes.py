@@ -6,6 +6,7 @@ from runs.harness import Case, Line, Outcome, Report, folder_of, run, shown, wor
 from runs.terminal import WAYS
 from words.command_lines import lines_of
 from words.explaining import Explained
+from words.phrases import code
 
 MESSAGE = b"krbfile: bad command line\n"
 
@@ -58,7 +59,6 @@ MISTAKES: dict[str, str | list[Line]] = {
     "nothing selects; give -p, --all-services or --expired": "ccremove -n k, ccremove k t",
     "-s takes one FILE": "klist k -sc k k", "--silent takes one FILE": "klist k --silent t",
     '"b@R@S" has a second @': "ccremove -p b@R@S --expired k, ktcheck --want b@R@S --want b k",
-    "--explain stands before the command": "ccremove --explain --expired k, ktcopy --explain k t",
     '"x" is no version': "ktfind k x 0 b@R", '"4294967296" is no version': "ktfind k 4294967296 0 b@R",
     '"b@R\\" has a backslash at the end': "ktfind k 0 0 b@R\\", '"b@R/x" has a / in the realm': "ktfind k 0 0 b@R/x",
     "unknown command ": [("",)], r"unknown command fr\x09ob\x7f": [("fr\tob\x7f",)],
@@ -84,6 +84,10 @@ HIDDEN: dict[str, str] = {
     f"unknown option --x{KEY}": f"klist --x{KEY} k", f'"{SHORT}" is no version': f"ktfind k {SHORT} 0 b@R",
 }
 
+# What does here what commands of these names do in other programs.
+ELSEWHERE = {"klist": "list ls", "ktfind": "get", "ktcopy": "add copy merge", "ktcopy --as": "rename", "ktdiff": "diff",
+             "ktcheck": "check", "ktremove": "delete del rm remove ktdel", "ktremove -k old": "purge"}
+
 # What is wrong, and what was meant as it seems.
 NEAR: dict[tuple[str, str], str] = {
     ("unknown command klis", "klist"): "klis -k k, help klis", ("unknown command lkist", "klist"): "lkist",
@@ -95,6 +99,8 @@ NEAR: dict[tuple[str, str], str] = {
     ("unknown option --in-palce", "--in-place"): "ktutil --in-palce",
     ("unknown option --expired=yes", "--expired"): "ccremove --expired=yes k",
     ("unknown option --with-file-name", "--with-filename"): "ktcheck --with-file-name k",
+    **{(f"unknown command {word}", meant): word for meant, words in ELSEWHERE.items() for word in words.split()},
+    ("unknown option --dry", "--dry-run"): "ktremove --dry -e 17 k", ("unknown option --v=1", "--v1-big"): "ktcheck --v=1 k",
     ("unknown command ktdif", "ktdiff"): "ktdif k t", ("unknown option --sa", "--as"): "ktcopy -p b@R --sa c@R k t",
 }
 
@@ -122,7 +128,12 @@ CASES = [
     *(Case(line, words_of(line), Outcome(2, err=MESSAGE + f"krbfile: {phrase}\n".encode()), {"k": TWO})
       for line, phrase in (
           ("--explain --explain klist -k k", "--explain is given twice; see krbfile --help"),
-          ("--explain klist k --explain", "--explain stands before the command; see krbfile klist --help"))),
+          ("--explain klist k -x --explain", "unknown option -x; see krbfile klist --help"),
+          ("ktfind k --explain", "no KVNO; see krbfile ktfind --help"))),
+    # It is an operand after `--`.
+    Case("an operand", ("ktfind", "--", "--explain"), Outcome(2, err=MESSAGE), {"k": TWO}),
+    Case("behind a command", ("ktfind", "k", "4", "0", "b@R", "--explain"),
+         Outcome(1, err=f"krbfile: k: refused 10\nkrbfile: {code(10)}\n".encode()), {"k": TWO}),
 ]
 
 

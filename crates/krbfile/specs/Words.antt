@@ -10,7 +10,7 @@ use Rattle.clap.specs.declared.builder.action.ArgAction.{ArgAction}
 use Rattle.clap.specs.declared.builder.action.ArgAction.TheVariants.{Append, Set}
 use Rattle.clap.specs.declared.builder.arg.Arg.{Arg}
 use Rattle.clap.specs.declared.builder.command.Command.{Command}
-use Rattle.krb_driver.specs.Mistakes.{MistakeParts, LateExplain, LeftOver, Missing, NeedsValue, NoCommand, Twice, UnknownCommand, UnknownLetter, UnknownOption}
+use Rattle.krb_driver.specs.Mistakes.{MistakeParts, LeftOver, Missing, NeedsValue, NoCommand, Twice, UnknownCommand, UnknownLetter, UnknownOption}
 use Rattle.krbfile.specs.declared.place.Place.{Place}
 use Rattle.krbfile.specs.declared.place.Place.TheVariants.{Any, Operand, Value}
 
@@ -139,7 +139,7 @@ wants_value options word = if is_long word then ok_or (wants_long options (drop 
 abbrev pub read_word : List Arg → Place → List ℕ → List ℕ → Result Place MistakeParts
 read_word args (Value count) last word = if is_option word then Err (NeedsValue last) else Ok (Any count)
 read_word args (Operand count) last word = result_map_both Operand (λ mistake. mistake) (with_operand args count word)
-read_word args (Any count) last word = if bytes_eq word (codes "--") then Ok (Operand count) else (if is_explain word then Err LateExplain else (if is_option word then result_map_both (λ wants. if wants then Value count else Any count) (λ mistake. mistake) (wants_value args word) else result_map_both Any (λ mistake. mistake) (with_operand args count word)))
+read_word args (Any count) last word = if bytes_eq word (codes "--") then Ok (Operand count) else (if is_option word then result_map_both (λ wants. if wants then Value count else Any count) (λ mistake. mistake) (wants_value args word) else result_map_both Any (λ mistake. mistake) (with_operand args count word))
 
 -- what is missing after the last word; if nothing is, that word is left over
 abbrev pub missing_after : List Arg → Place → List ℕ → MistakeParts

@@ -58,17 +58,22 @@ fn command_of<'a>(alloc: Global, line: &CommandWords) -> Result<Command<'a>, All
     for word in line.words {
         command = command.arg(arg_of(alloc, *word))?;
     }
-    Ok(command)
+    command.arg(explain(alloc).hide(true))
+}
+
+// Returns the option that shows words, before a command or behind it.
+fn explain<'a>(alloc: Global) -> Arg<'a> {
+    let help = "Explain errors in words, as on a terminal";
+    arg_of(alloc, Word::LongFlag("explain", help))
 }
 
 // Returns the program's command without subcommands.
 fn top_command<'a>(alloc: Global) -> Result<Command<'a>, AllocError> {
-    let help = "Explain errors in words, as on a terminal (must come first)";
     Command::new(alloc, "krbfile")
         .version(VERSION)
         .about("Lists and edits Kerberos keytabs and credential caches")
         .subcommand_required(true)
-        .arg(arg_of(alloc, Word::LongFlag("explain", help)))
+        .arg(explain(alloc))
 }
 
 // Returns whether a word is the name of a command.

@@ -1,7 +1,8 @@
 //! What was meant by an unknown word.
 
-ghost use Rattle.std.specs.Prelude.{◌≡◌, IfOk};
-ghost use Rattle.krbfile.specs.Nearest.{nearest};
+ghost use Rattle.std.specs.Prelude.{◌≡◌, IfOk, bytes_eq, option_copied};
+ghost use Rattle.std.specs.Map.{lookup};
+ghost use Rattle.krbfile.specs.Nearest.{elsewhere, nearest};
 
 use crate::options::before_equals;
 use clap::Command;
@@ -39,9 +40,9 @@ fn command_names(alloc: Global) -> Result<Vec<&'static str>, AllocError> {
     Ok(names)
 }
 
-// Returns the long names of a command's options, without `--`.
+// Returns the long names of a command's options, without `--` and but for `--help`.
 fn long_names<'a>(alloc: Global, command: &Command<'a>) -> Result<Vec<&'a str>, AllocError> {
-    let mut names = vec![in alloc; "help"]?;
+    let mut names = Vec::new(alloc);
     for option in command.get_arguments() {
         match option.get_long() {
             Some(name) if name != "help" => names.push(name)?,
@@ -51,8 +52,28 @@ fn long_names<'a>(alloc: Global, command: &Command<'a>) -> Result<Vec<&'a str>, 
     Ok(names)
 }
 
-/// Returns the command that was meant by a word, if one is near.
+// Returns what does here what a command of that name does in another program.
+fn command_elsewhere(word: &str) -> Option<&'static str>
+    ensures { option_copied result ≡ lookup (λ name. bytes_eq word.now name) elsewhere }
+{
+    match word {
+        "list" | "ls" => Some("klist"),
+        "get" => Some("ktfind"),
+        "add" | "copy" | "merge" => Some("ktcopy"),
+        "rename" => Some("ktcopy --as"),
+        "diff" => Some("ktdiff"),
+        "check" => Some("ktcheck"),
+        "delete" | "del" | "rm" | "remove" | "ktdel" => Some("ktremove"),
+        "purge" => Some("ktremove -k old"),
+        _ => None,
+    }
+}
+
+/// Returns the command that was meant by a word, if another program calls it that, or one is near.
 pub fn meant_command<'a>(alloc: Global, word: &str) -> Result<More<'a>, AllocError> {
+    if let Some(command) = command_elsewhere(word) {
+        return Ok(More::MeantCommand(command));
+    }
     let names = command_names(alloc)?;
     match nearest(alloc, word, &names)? {
         Some(name) => Ok(More::MeantCommand(name)),
@@ -60,7 +81,8 @@ pub fn meant_command<'a>(alloc: Global, word: &str) -> Result<More<'a>, AllocErr
     }
 }
 
-/// Returns the long option of a command that was meant by a word, if that is one and one is near.
+/// Returns the long option of a command that was meant by a word, if that is one: the one that is near, or alone begins
+/// with it.
 pub fn meant_option<'a>(
     alloc: Global,
     command: &Command<'a>,
@@ -69,9 +91,13 @@ pub fn meant_option<'a>(
     let Some(option) = word.strip_prefix("--") else {
         return Ok(More::Nothing);
     };
-    let names = long_names(alloc, command)?;
-    match nearest(alloc, before_equals(option), &names)? {
-        Some(name) => Ok(More::MeantOption(name)),
-        None => Ok(More::Nothing),
+    let (names, option) = (long_names(alloc, command)?, before_equals(option));
+    if let Some(name) = nearest(alloc, option, &names)? {
+        return Ok(More::MeantOption(name));
+    }
+    let mut longer = names.iter().filter(|name| name.starts_with(option));
+    match (longer.next(), longer.next()) {
+        (Some(name), None) => Ok(More::MeantOption(*name)),
+        _ => Ok(More::Nothing),
     }
 }

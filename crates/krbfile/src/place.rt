@@ -34,7 +34,6 @@ fn read_word<'a>(
         Place::Value(_) if is_option(word) => Err(Mistake::NeedsValue(last)),
         Place::Value(count) => Ok(Place::Any(count)),
         Place::Any(count) if word == "--" => Ok(Place::Operand(count)),
-        Place::Any(_) if word == "--explain" => Err(Mistake::LateExplain),
         Place::Any(count) if is_option(word) => match wants_value(args, word)? {
             true => Ok(Place::Value(count)),
             false => Ok(place),

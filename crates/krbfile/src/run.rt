@@ -25,10 +25,23 @@ pub fn is_told_to_explain<R: rt::Env>(rt: &R) -> bool {
     }
 }
 
-/// Returns whether `--explain` is the first word after the program's name. The others need not be UTF-8.
+// Returns whether `--explain` is the first word after the program's name.
+fn begins_with_explain<R: rt::Env>(rt: &R) -> bool {
+    word_of(rt, 1, &mut [0; 16]) == b"--explain".as_slice()
+}
+
+/// Returns whether `--explain` is one of the words before a first `--`. They need not be UTF-8. Takes no memory.
 pub fn asks_to_explain<R: rt::Env>(rt: &R) -> bool {
-    let mut word = [0; 9];
-    matches!(rt.arg(1, &mut word), Ok(9)) && word == *b"--explain"
+    let mut buffer = [0; 9];
+    for number in 1..usize::MAX {
+        match rt.arg(number, &mut buffer) {
+            Ok(9) if buffer == *b"--explain" => return true,
+            Ok(2) if buffer.starts_with(b"--") => return false,
+            Err(FillError::NotPresent) => return false,
+            _ => {}
+        }
+    }
+    false
 }
 
 /// The most words that are looked at.
@@ -63,7 +76,7 @@ fn word_of<'a, R: rt::Env>(rt: &R, number: usize, word: &'a mut [u8; 16]) -> &'a
 
 /// Returns whether the words are those of `klist -s`.
 pub fn asks_for_silence<R: rt::Env>(rt: &R) -> bool {
-    let first = if asks_to_explain(rt) { 2 } else { 1 };
+    let first = if begins_with_explain(rt) { 2 } else { 1 };
     is_klist(word_of(rt, first, &mut [0; 16]))
         && (first + 1..MOST).any(|number| is_silent(word_of(rt, number, &mut [0; 16])))
 }
