@@ -12,7 +12,7 @@ from words.phrases import NO_ENTRY, NO_PASSWORDS
 
 END = "\x04"
 SCRIPT = "krbfile: reading a script; end it with Ctrl-D\n"
-COMMAND, KEY_PROMPT, PASSWORD = "ktutil: ", "key: ", "password (not used): "
+COMMAND, KEY_PROMPT, PASSWORD = "ktutil: ", "Key for a@R (hex): ", "password (not used): "
 ADD, FROM_PASSWORD = (f"addent {word} -p a@R -k 1 -e 17\n" for word in ("-key", "-password"))
 FAULT = f"krbfile: line 1: fault 2\nkrbfile: line 1: {NO_PASSWORDS}\n"
 

@@ -1,5 +1,5 @@
 -- The lines of ktutil leave what is due over honest files.
-use Rattle.krb_ktutil.proofs.Cited.{◌≡◌, ◌⊎◌, inl, inr, ℕ, ◌+◌, ◌≤◌, Bool, true, false, List, [], ◌∷◌, ◌++◌, length, refl, sym, ap, subst, ◌∙◌, append_assoc, append-nil, arith, not, max, ◌&&◌, Option, None, Some, IfSome, Err, false≢true, Ghosts, Watch, Effect, Fails, ErrorWatch, input_error, error_status, lines_of, IsCame, Came, KtutilState, line_faults, plan_of, Prompts, Talk, goes_on, HandlesLine, IsFalse, if◌then◌else◌, Appends, true≢false, follow, Run, Reports, Shows, ends_by, Ending, is_spent, ReportsEnd-nothing, Spares, prompt_of, last_prompt, AreFirst, Continues, Stops, TalksOver, LoadFault, FileMap, SameFiles, CountsFailure, count-more, count-trans, same-trans, Appends-nil, Appends-trans, NoMemory, Details, finishes-lasts, TalkDue, DueReport, ReportsDue, quiet_run, final_report, line_report, last_due, due_after, run_of, talk_due, GivesLines, LeavesDue, LeavesDueUnlessFailed, TalksHonestly}
+use Rattle.krb_ktutil.proofs.Cited.{◌≡◌, ◌⊎◌, inl, inr, ℕ, ◌+◌, ◌≤◌, Bool, true, false, List, [], ◌∷◌, ◌++◌, length, refl, sym, ap, subst, ◌∙◌, append_assoc, append-nil, arith, not, max, ◌&&◌, Option, None, Some, Err, false≢true, Ghosts, Watch, Effect, Fails, ErrorWatch, input_error, error_status, IsCame, Came, KtutilState, line_faults, plan_of, Prompts, Talk, goes_on, HandlesLine, IsFalse, if◌then◌else◌, Appends, true≢false, follow, Run, Reports, Shows, ends_by, Ending, is_spent, ReportsEnd-nothing, Spares, prompt_of, last_prompt, AreFirst, Continues, Stops, TalksOver, LoadFault, FileMap, SameFiles, CountsFailure, count-more, count-trans, same-trans, Appends-nil, Appends-trans, NoMemory, Details, finishes-lasts, TalkDue, DueReport, ReportsDue, quiet_run, final_report, line_report, last_due, due_after, run_of, talk_due, GivesLines, LeavesDue, LeavesDueUnlessFailed, TalksHonestly}
 use Rattle.std.proofs.Math.Bool.{and-false}
 use mathlib.Core.Path.{fun_ext}
 use Rattle.krb_files.specs.declared.aftermath.Aftermath.{Aftermath}

@@ -1,7 +1,8 @@
 -- The words of a line, the command that they ask for, and their faults.
-use Rattle.std.specs.Prelude.{ℕ, zero, suc, List, [], ◌∷◌, map, filter, reverse, Bool, true, false, ◌||◌, ◌==◌, if◌then◌else◌, not, ◌&&◌, nat_lt, nat_le, codes, Option, None, Some, is_none, ok_or, Result, Ok, Err}
+use Rattle.std.specs.Prelude.{ℕ, zero, suc, List, [], ◌∷◌, ◌++◌, map, filter, reverse, Bool, true, false, ◌||◌, ◌==◌, if◌then◌else◌, not, ◌&&◌, nat_lt, nat_le, codes, Option, None, Some, is_none, ok_or, Result, Ok, Err}
 use Rattle.std.specs.List.{concat, slice_split, list_any}
 use Rattle.std.specs.Str.{bytes_eq, is_utf8}
+use Rattle.krb_wire.specs.Names.{name_text}
 use Rattle.krb_wire.specs.Spelling.{Parts}
 use Rattle.krb_wire.specs.Reading.{◌>>=◌}
 use Rattle.krb_text.specs.declared.columns.KtColumns.{KtColumns}
@@ -68,6 +69,10 @@ pub record Awaited : Type 0 where
   pub principal : Parts
   pub version : ℕ
   pub enctype : ℕ
+
+-- the prompt for the key of a name
+abbrev pub key_prompt : Parts → List ℕ
+key_prompt principal = codes "Key for " ++ (name_text principal ++ codes " (hex): ")
 
 -- the command of a line
 pub data Command : Type 0 where

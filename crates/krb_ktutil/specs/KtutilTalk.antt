@@ -18,18 +18,18 @@ use Rattle.krb_ktutil.specs.InputLines.{CutsOff, lines_of}
 use Rattle.krb_files.specs.Loading.{most_bytes}
 use Rattle.krb_driver.specs.RunErrors.{Ending, error_status, input_error, is_spent}
 use Rattle.krb_files.specs.Files.{FileMap, SameFiles, CountsFailure}
-use Rattle.krb_ktutil.specs.KtutilCommand.{Awaited}
+use Rattle.krb_ktutil.specs.KtutilCommand.{Awaited, key_prompt}
 use Rattle.krb_driver.specs.declared.verdict.Verdict.TheVariants.{Well}
 use Rattle.krb_driver.specs.declared.command.World.{World}
 
 -- the prompt before a line
-abbrev pub prompt_of : {K : Type 0} → Awaiting K → List ℕ
+abbrev pub prompt_of : Awaiting Awaited → List ℕ
 prompt_of Nothing = codes "ktutil: "
-prompt_of (Key x) = codes "key: "
+prompt_of (Key x) = key_prompt x.principal
 prompt_of Password = codes "password (not used): "
 
 -- the prompt at the end of the input: a newline follows
-abbrev pub last_prompt : {K : Type 0} → Awaiting K → List ℕ
+abbrev pub last_prompt : Awaiting Awaited → List ℕ
 last_prompt awaiting = prompt_of awaiting ++ 10 ∷ []
 
 -- a text was written to the error output, whole unless that has failed

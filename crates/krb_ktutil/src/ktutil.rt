@@ -128,7 +128,7 @@ pub fn run_ktutil<A: Allocator + Copy, F: Files, R: Read, W: Write, E: Write>(
         match lines.read_line(&mut world.input) {
             Ok(true) => {}
             Ok(false) => {
-                show_prompt(prompts, "\n", &mut world.err);
+                show_prompt(prompts, b"\n", &mut world.err);
                 return talk.status;
             }
             Err(fault) => {
@@ -146,17 +146,17 @@ pub fn run_ktutil<A: Allocator + Copy, F: Files, R: Read, W: Write, E: Write>(
 }
 
 // Writes a text; nothing if a write failed. Ignores a failure.
-fn write_text<E: Write>(text: &str, to: &mut Watched<E>)
+fn write_text<E: Write>(text: &[u8], to: &mut Watched<E>)
     ensures { WritesOn to.old to.new text.now }
 {
     if to.has_failed() {
         return;
     }
-    let _ = put(to, text.as_bytes());
+    let _ = put(to, text);
 }
 
 // Writes a text, if there are prompts. Ignores a failure.
-fn show_prompt<E: Write>(prompts: bool, text: &str, err: &mut ErrorOutput<E>)
+fn show_prompt<E: Write>(prompts: bool, text: &[u8], err: &mut ErrorOutput<E>)
     ensures { PromptsOn prompts text.now err.old err.new }
 {
     if prompts {

@@ -35,30 +35,34 @@ impl<K: Drop> Awaiting<K> {
             _ => None,
         }
     }
+}
 
+impl<A: Allocator> Awaiting<Addition<A>> {
     /// Returns the prompt before the next line.
-    pub fn prompt(&self) -> &'static str
+    pub fn prompt(&self) -> &[u8]
         ensures { result.now ≡ prompt_of self.now }
     {
         match self {
-            Awaiting::Nothing => "ktutil: ",
-            Awaiting::Key(_) => "key: ",
-            Awaiting::Password => "password (not used): ",
+            Awaiting::Nothing => b"ktutil: ",
+            Awaiting::Key(entry) => &entry.prompt,
+            Awaiting::Password => b"password (not used): ",
         }
     }
 }
 
-/// An entry without its key and its time.
+/// An entry without its key and its time, and the prompt for its key.
 #[derive(Drop)]
 pub struct Addition<A: Allocator> {
     pub principal: Principal<A>,
     pub kvno: u32,
     pub enctype: u16,
+    pub prompt: Vec<u8, A>,
 }
 
 impl<A: Allocator> Model for Addition<A> {
+    ghost use Rattle.std.specs.Prelude.{◌≡◌};
     ghost use Rattle.krb_wire.specs.Reading.{principal_parts};
-    ghost use Rattle.krb_ktutil.specs.KtutilCommand.{Awaited};
+    ghost use Rattle.krb_ktutil.specs.KtutilCommand.{Awaited, key_prompt};
 
     ghost Value = { Awaited };
 
@@ -67,4 +71,6 @@ impl<A: Allocator> Model for Addition<A> {
       version = x.kvno;
       enctype = x.enctype;
     } };
+
+    ghost invariant = { λ x. x.prompt.items ≡ key_prompt (principal_parts x.principal) };
 }

@@ -1,12 +1,14 @@
 //! Parses the options of `add_entry`.
 
-ghost use Rattle.std.specs.Prelude.{◌≡◌, ◌<◌, ◌+◌, ◌∷◌, None, IfSome, MatchOption, length};
-ghost use Rattle.krb_ktutil.specs.KtutilCommand.{words, after, no_options, is_new_key, with_option, options_in, add_words, awaited_of, has_password};
+ghost use Rattle.std.specs.Prelude.{◌≡◌, ◌<◌, ◌+◌, ◌∷◌, None, IfOk, IfSome, MatchOption, length};
+ghost use Rattle.krb_wire.specs.Reading.{principal_parts};
+ghost use Rattle.krb_ktutil.specs.KtutilCommand.{words, after, no_options, is_new_key, with_option, options_in, add_words, awaited_of, has_password, key_prompt};
 ghost use Rattle.krb_text.specs.LineFault.{Reads};
 
 use crate::ktutil::awaiting::Addition;
 use crate::ktutil::words::next_word;
-use krb_text::{LineFault, LineRefusal, etype_word, name_word, number_word};
+use krb_text::{LineFault, LineRefusal, append, etype_word, name_word, number_word};
+use krb_wire::{NoMemory, Principal, write_name};
 use std::alloc::Allocator;
 use std::marker::Model;
 
@@ -99,6 +101,17 @@ fn options(rest: &[u8]) -> Option<AddOptions<'_>>
     Some(options)
 }
 
+// Returns the prompt for the key of a name.
+fn prompt_for<A: Allocator>(alloc: A, principal: &Principal<A>) -> Result<Vec<u8, A>, NoMemory>
+    ensures { IfOk result (λ text. text.items ≡ key_prompt (principal_parts principal.now)) }
+{
+    let mut text = Vec::new(alloc);
+    append(b"Key for ", &mut text)?;
+    write_name(principal, &mut text)?;
+    append(b" (hex): ", &mut text)?;
+    Ok(text)
+}
+
 // Parses three words as an entry: first its kvno, then its enctype, then its name.
 fn addition_of<A: Allocator + Copy>(
     alloc: A,
@@ -112,10 +125,12 @@ fn addition_of<A: Allocator + Copy>(
     let kvno = number_word(kvno)?;
     let enctype = etype_word(etype)?;
     let principal = name_word(alloc, name)?;
+    let prompt = prompt_for(alloc, &principal)?;
     Ok(Addition {
         principal,
         kvno,
         enctype,
+        prompt,
     })
 }
 

@@ -68,7 +68,7 @@ impl<A: Allocator + Copy> Ktutil<A> {
     }
 
     /// Returns the prompt before the next line.
-    pub fn prompt(&self) -> &'static str
+    pub fn prompt(&self) -> &[u8]
         ensures { result.now ≡ prompt_of self.now.awaiting }
     {
         self.awaiting.prompt()

@@ -3,6 +3,4 @@ use Rattle.krb_ktutil.proofs.KtutilLemmas.{WritesOn-put}
 use Rattle.krb_ktutil.proofs.ktutil.write_text.Goals as goal
 
 pub returns : goal.returns
-returns g c =
-    WritesOn-put c.args.to.now c.put.new.out c.args.text.now c.put.result (sym c.has_failed.ensures ∙ c.if-has_failed.false)
-    (rw c.as_bytes.ensures.value at c.put.ensures.ok) (rw c.as_bytes.ensures.value at c.put.ensures.prefix) c.put.ensures.failed
+returns g c = WritesOn-put c.args.to.now c.put.new.out c.args.text.now c.put.result (sym c.has_failed.ensures ∙ c.if-has_failed.false) c.put.ensures.ok c.put.ensures.prefix c.put.ensures.failed
