@@ -237,11 +237,12 @@ fn parsed<'a, M: Matches<'a>>(
 ) -> Result<Action<'a>, WordFault<'a>>
     ensures { Reads (line_mistake command (M.matched matches.now)) (Asks command (M.matched matches.now)) result }
 {
-    let keytab = edited_file(matches, FileKind::Keytab, "FILE");
-    let cache = edited_file(matches, FileKind::Cache, "FILE");
     match command {
         CommandName::Klist => parsed_klist(alloc, matches),
-        CommandName::Ktedit => Ok(Action::Ktedit(v1_order(matches), keytab)),
+        CommandName::Ktedit => {
+            let file = edited_file(matches, FileKind::Keytab, "FILE");
+            Ok(Action::Ktedit(v1_order(matches), file))
+        }
         CommandName::Ktfind => Ok(Action::Ktfind(
             find_options(alloc, matches)?,
             file_of(matches, FileKind::Keytab, "FILE"),
@@ -262,7 +263,10 @@ fn parsed<'a, M: Matches<'a>>(
         )),
         CommandName::Ktcheck => parsed_ktcheck(alloc, matches),
         CommandName::Show => parsed_show(alloc, matches),
-        CommandName::Ccedit => Ok(Action::Ccedit(cache)),
+        CommandName::Ccedit => {
+            let file = edited_file(matches, FileKind::Cache, "FILE");
+            Ok(Action::Ccedit(file))
+        }
         CommandName::Ccremove => Ok(Action::Ccremove(
             ticket_options(alloc, matches)?,
             files_named(alloc, matches, FileKind::Cache, NameSource::LikePrincipal)?,

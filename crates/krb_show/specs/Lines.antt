@@ -1,5 +1,5 @@
 -- The lines of a keytab while they are gathered.
-use Rattle.std.specs.Prelude.{◌≡◌, List}
+use Rattle.std.specs.Prelude.{◌≡◌, ◌+◌, List, length}
 use Rattle.std.specs.Vec.Iter.{into_iter_items}
 use Rattle.krb_keytab.specs.Find.{PlacedEntry}
 use Rattle.krb_audit.specs.Rows.{AreRows}
@@ -13,3 +13,4 @@ pub record AreSoFar {A : Type 0} (all rest : List PlacedEntry) (s : SoFar A) : T
   pub rows : AreRows all rest (into_iter_items s.rows)
   pub are_old : AreMarks Old 0 all rest (into_iter_items s.are_old)
   pub lines : lines_from all s.lines.entries rest ≡ lines_of all
+  pub count : s.count + length rest ≡ length all

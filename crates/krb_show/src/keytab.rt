@@ -1,29 +1,17 @@
 //! A keytab as it is shown to people.
 
-ghost use Rattle.std.specs.Prelude.{◌≡◌, ◌++◌, IfOk, OnOk, length};
-ghost use Rattle.krb_keytab.specs.Find.{placed_entries};
+ghost use Rattle.std.specs.Prelude.{◌≡◌, ◌++◌, IfOk, OnOk};
 ghost use Rattle.krb_show.specs.KeytabView.{keytab_heading, keytab_view, name_count};
 
 use crate::columns::{Rows, append_counted, append_line, append_table, widened_by};
 use crate::keys::KeyRow;
-use crate::lines::{Lines, lines_of};
+use crate::lines::{Lines, lines_of, one_more};
 use krb_keytab::Keytab;
 use krb_text::{append, append_byte, append_fault_line};
 use krb_wire::NoMemory;
 use std::alloc::Allocator;
 
 const TITLES: [&[u8]; 4] = [b"KVNO", b"ADDED", b"KEYS", b"PRINCIPAL"];
-
-// Returns the number of entries.
-fn entry_count<B: Allocator>(keytab: &Keytab<B>) -> Result<usize, NoMemory>
-    ensures { IfOk result (λ n. n ≡ length (placed_entries keytab.now.state)) }
-{
-    let mut count: usize = 0;
-    'entries: for _entry in keytab.entries() {
-        count = count.checked_add(1).ok_or(NoMemory)?;
-    }
-    Ok(count)
-}
 
 // Returns how many names the lines have.
 fn name_count<A: Allocator>(lines: &Lines<'_, A>) -> Result<usize, NoMemory>
@@ -32,7 +20,7 @@ fn name_count<A: Allocator>(lines: &Lines<'_, A>) -> Result<usize, NoMemory>
     let mut count: usize = 0;
     'lines: for (key, _line) in lines {
         if !key.1 {
-            count = count.checked_add(1).ok_or(NoMemory)?;
+            count = one_more(count)?;
         }
     }
     Ok(count)
@@ -103,8 +91,8 @@ pub fn append_keytab_view<A: Allocator + Copy, B: Allocator>(
 ) -> Result<(), NoMemory>
     ensures { OnOk result (out.new.items ≡ out.old.items ++ keytab_view name.now now keytab.now.state) }
 {
-    let lines = lines_of(alloc, keytab)?;
-    append_heading(name, entry_count(keytab)?, name_count(&lines)?, out)?;
+    let (lines, count) = lines_of(alloc, keytab)?;
+    append_heading(name, count, name_count(&lines)?, out)?;
     let rows = KeyRows {
         clock: now,
         lines: &lines,

@@ -1,6 +1,6 @@
 //! The lines of a keytab's table: one for each name and version.
 
-ghost use Rattle.std.specs.Prelude.{◌≡◌, ◌++◌, ◌∷◌, ℕ, List, IfOk, OnOk, Some};
+ghost use Rattle.std.specs.Prelude.{◌≡◌, ◌+◌, ◌++◌, ◌∷◌, ℕ, List, IfOk, OnOk, Some, length};
 ghost use Rattle.krb_wire.specs.Names.{name_text};
 ghost use Rattle.krb_keytab.specs.Entry.{entry_at};
 ghost use Rattle.krb_keytab.specs.Find.{PlacedEntry, placed_entries};
@@ -88,12 +88,21 @@ fn put_entry<'a, A: Allocator + Copy>(
     Ok(())
 }
 
-// The lines of the entries so far, and what is known of those to come: the numbers of their names, and whether they are old.
+/// Returns a count of entries or lines with one more.
+pub fn one_more(count: usize) -> Result<usize, NoMemory>
+    ensures { IfOk result (λ more. more ≡ count + 1) }
+{
+    count.checked_add(1).ok_or(NoMemory)
+}
+
+// The lines of the entries so far, how many these are, and what is known of those to come: the numbers of their names, and
+// whether they are old.
 #[derive(Drop)]
 struct SoFar<'a, A: Allocator> {
     rows: IntoIter<Row, A>,
     are_old: IntoIter<bool, A>,
     lines: Lines<'a, A>,
+    count: usize,
 }
 
 impl<'a, A: Allocator + Copy> SoFar<'a, A> {
@@ -107,6 +116,7 @@ impl<'a, A: Allocator + Copy> SoFar<'a, A> {
             rows: rows.into_iter(),
             are_old: are_old.into_iter(),
             lines: BTreeMap::new(alloc),
+            count: 0,
         })
     }
 
@@ -118,6 +128,7 @@ impl<'a, A: Allocator + Copy> SoFar<'a, A> {
         let Some(entry) = read_entry(format, record) else {
             return Ok(());
         };
+        self.count = one_more(self.count)?;
         let number = next_number(&mut self.rows);
         let is_old = next_mark(&mut self.are_old);
         let key = (number, is_old, Reverse(entry.kvno()));
@@ -125,12 +136,13 @@ impl<'a, A: Allocator + Copy> SoFar<'a, A> {
     }
 }
 
-/// Returns the lines of a keytab's entries.
+/// Returns the lines of a keytab's entries, and how many entries it has.
 pub fn lines_of<'a, A: Allocator + Copy, B: Allocator>(
     alloc: A,
     keytab: &'a Keytab<B>,
-) -> Result<Lines<'a, A>, NoMemory>
-    ensures { IfOk result (λ lines. lines.entries ≡ lines_of (placed_entries keytab.now.state)) }
+) -> Result<(Lines<'a, A>, usize), NoMemory>
+    ensures lines { IfOk result (λ made. made.0.entries ≡ lines_of (placed_entries keytab.now.state)) }
+    ensures count { IfOk result (λ made. made.1 ≡ length (placed_entries keytab.now.state)) }
 {
     let mut so_far = SoFar::of(alloc, keytab)?;
     let format = keytab.format();
@@ -139,5 +151,5 @@ pub fn lines_of<'a, A: Allocator + Copy, B: Allocator>(
             so_far.add(alloc, format, record)?;
         }
     }
-    Ok(so_far.lines)
+    Ok((so_far.lines, so_far.count))
 }

@@ -1,4 +1,4 @@
-use Rattle.krb_show.proofs.Cited.{◌≡◌, ◌∷◌, ◌∙◌, ap, subst, sym, ℕ, List, Option, Old, PlacedEntry, unwrap_or, on_ok_weaker, some_is, EntryParts, LineKey, LineParts, line_key, lines_from, put_entry, AreSoFar}
+use Rattle.krb_show.proofs.Cited.{◌≡◌, ◌∷◌, ◌∙◌, ap, arith, subst, sym, ℕ, List, Option, Old, PlacedEntry, unwrap_or, on_ok_weaker, some_is, EntryParts, LineKey, LineParts, line_key, lines_from, put_entry, AreSoFar}
 use Rattle.krb_show.proofs.lines.SoFar.add.Goals as goal
 
 -- the next entry is in the line with its key
@@ -16,5 +16,6 @@ returns g c = λ all rest x read known.
     on_ok_weaker c.put_entry.result (λ put. record {
       rows = number.1;
       are_old = marked.1;
+      count = omega (arith, c.in_ok-self.ensures, so_far.count);
       lines = ap (λ (l : List (LineKey × LineParts)). lines_from all l rest) (put ∙ ap (λ (k : LineKey). put_entry k e lines) is) ∙ so_far.lines;
     }) (c.put_entry.ensures c.in-Some.ensures.exact)
