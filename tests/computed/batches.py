@@ -3,9 +3,9 @@
 import re
 import subprocess
 import tempfile
+from collections import Counter
 from collections.abc import Iterable
 from concurrent.futures import ThreadPoolExecutor
-from contextlib import suppress
 from pathlib import Path
 
 from computed.terms import NotComputed, row_of
@@ -43,16 +43,31 @@ def days_of(case: Case) -> set[int]:
     return {seconds(moment) // 86_400 for moment in TIME.findall(case.wanted.out)}
 
 
+def row_within(case: Case, days: set[int]) -> str:
+    """Returns the theorem of a run that is small enough, and prints few days that others do not."""
+    if case.wanted.status in NOT_COMPUTED:
+        raise NotComputed("a status of 2, 3 or 4")
+    if case.size() + len(case.wanted.out) + sum(map(len, (case.files_after or {}).values())) > MOST:
+        raise NotComputed(f"more than {MOST:,} bytes")
+    if len(days | days_of(case)) > DAYS:
+        raise NotComputed(f"more than {DAYS} days")
+    return row_of("row_N", case)
+
+
 def rows_of(seen: Iterable[Case]) -> dict[int, tuple[Case, str]]:
-    """Returns the runs that the definitions compute, each once, with its theorem, by number."""
+    """Returns the runs that the definitions compute, each once, with its theorem, by number; prints how many they do not,
+    and why."""
     found: dict[str, Case] = {}
     days: set[int] = set()
+    why: Counter[str] = Counter()
     for case in seen:
-        size = case.size() + len(case.wanted.out) + sum(map(len, (case.files_after or {}).values()))
-        if size <= MOST and case.wanted.status not in NOT_COMPUTED and len(days | days_of(case)) <= DAYS:
-            with suppress(NotComputed):
-                found.setdefault(row_of("row_N", case), case)
-                days |= days_of(case)
+        try:
+            found.setdefault(row_within(case, days), case)
+            days |= days_of(case)
+        except NotComputed as reason:
+            why[str(reason)] += 1
+    for reason, count in why.most_common():
+        print(f"{count} runs are not compared with the definitions: {reason}")
     return {number: (case, text.replace("row_N", f"row_{number}")) for number, (text, case) in enumerate(found.items())}
 
 

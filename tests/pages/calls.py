@@ -1,5 +1,5 @@
-"""The page of each crate, `crates/NAME/CALLING.md`: its calls are those of the sources, each that may be refused has a
-row, and the rows name clauses and tests that exist."""
+"""The page of each crate, `crates/NAME/CALLING.md`: its calls are those of the sources, each that may be refused, or
+runs a command, has a row, and the rows name clauses and tests that exist."""
 
 import os
 import re
@@ -60,7 +60,8 @@ def faults_of_rows(calls: Calls, tables: str) -> list[str]:
     each after its file below `crates`, or files of the repository."""
     rows = [[cell.strip() for cell in line[1:-1].split("|")] for line in tables.splitlines() if line.startswith("| `")]
     named = [name for row in rows for name in quoted(row[0])]
-    refused = [name for name, contract in calls.items() if re.search(r"-> (?:Option|Result)<", contract)]
+    refused = [name for name, contract in calls.items()
+               if re.search(r"-> (?:Option|Result)<", contract) or name.startswith("run_")]
     wrong = [f"{name} has {named.count(name)} rows" for name in sorted({*named, *refused}) if named.count(name) != 1]
     wrong += [f"{name} is no call" for name in named if name not in calls]
     for row in rows:

@@ -39,7 +39,7 @@ use Rattle.krb_editors.specs.Selecting.{bad_criteria}
 use Rattle.krb_editors.specs.Removing.{RemovesWith}
 use Rattle.krb_editors.specs.Ktremove.{SpellsRemoval, ktremove_plan, needed_time, remove_mistake}
 use Rattle.krb_ktutil.specs.KtutilTalk.{RunsKtutil}
-use Rattle.krb_driver.specs.Mistakes.{Matched, first_mistake, first_value, v1_order, MistakeParts, word_status, word_text}
+use Rattle.krb_driver.specs.Mistakes.{Matched, first_value, v1_order, MistakeParts, word_status, word_text}
 use Rattle.krb_driver.specs.Runs.{Run, Writes, ends_by}
 use Rattle.krb_editors.specs.Sessions.{RunsScript}
 use Rattle.krb_text.specs.Script.{event_in}
