@@ -1,6 +1,6 @@
 -- The names that the proofs cite most, passed on from one place. Declares nothing.
 unfoldable pub use Rattle.krb_copy.specs.Copying.{copy_run}
-pub use Rattle.std.proofs.Common.{List, ◌++◌, ℕ, sym, ap, ◌∙◌, subst, ◌≡◌, ◌∷◌, [], true, refl, Bool, cond, false, Ok, Some, arith, Result, Err, ◌+◌, take, length, drop, None, ◌<◌, inl, Option, append_assoc, inr, get_or, ◌*◌, ◌/◌, ◌≤◌, ◌⊎◌, ◌-◌}
+pub use Rattle.std.proofs.Common.{List, ◌++◌, ℕ, sym, ap, ◌∙◌, subst, ◌≡◌, ◌∷◌, [], true, refl, Bool, cond, false, Ok, Some, arith, Result, Err, ◌+◌, take, length, drop, None, ◌<◌, inl, Option, append_assoc, inr, get_or, ◌*◌, ◌/◌, ◌≤◌, ◌-◌}
 pub use Rattle.std.proofs.lemmas.Bool.{cases_Bool, ne_eqb, eqb-true, or_right, eq-eqb, not-false, or_cases, or_left, or_parts, both_ways, cases_eq, and_parts, cond_both, not-true, or_from, cases_lt}
 pub use Rattle.std.proofs.lemmas.List.{append-nil, map_push, take_at, drop_more, take_more, take_all, drop_all, map-append, length-replicate, nil_from_length, get_or-set_other, get_or-replicate, get_or_past, length_push}
 pub use Rattle.std.proofs.lemmas.List.Folds.{list_any-append, flat_map-map, find-append}
@@ -9,7 +9,7 @@ pub use Rattle.std.specs.Prelude.{map, ◌||◌, filter, ◌==◌, ◌&&◌, not
 pub use Rattle.std.specs.Str.{bytes_eq}
 pub use Rattle.krb_copy.specs.Classes.{ClassKey, AreClasses, class_cmp, IsClassKey, kind_of, has_among, emptiness, step_at, HaveClass, places_of, stays, has_key, IsClass}
 pub use Rattle.krb_copy.specs.Copying.{run_over, as_found, asked_as, renamed, step_of, Copy, Held, run_start, Clash, Run, There, with_copy, run_after, go_on, has_lines, run_added, as_copied, Step, twins, step_among, is_kept, copied_lines, clash_line}
-pub use Rattle.krb_copy.specs.Laws.{IsInPlace, AllStay, OthersStay, changes_of, Has, NothingElse, GoesByItsEntries, AreEntries, ChangesAreTold, SecondDoesNothing, changes_over, AreHistories, changes_on, HasEachAsked}
+pub use Rattle.krb_copy.specs.Laws.{IsInPlace, AllStay, OthersStay, changes_of, Has, NothingElse, GoesByItsEntries, AreEntries, ChangesAreTold, SecondDoesNothing, changes_over, AreHistories, HasEachAsked}
 pub use Rattle.krb_copy.specs.Made.{IsRun, IsMade, name_in, IsRefusal, IsRefusedBy, EndsBy, Meets, Ends}
 pub use Rattle.krb_copy.specs.Texts.{name_texts, AreNames, AreTexts, asked_texts, entry_texts}
 pub use Rattle.krb_audit.specs.Twins.{are_twins, are_same}
@@ -22,7 +22,7 @@ pub use Rattle.krb_keytab.specs.Store.{KeytabState, entry_at_place, store_of, st
 pub use Rattle.krb_text.specs.Listing.{removed_line, placed_line}
 pub use Rattle.krb_walk.specs.Events.{cut_store, SessionState, after, put_store}
 pub use Rattle.krb_walk.specs.declared.refusal.Code.{Code}
-pub use Rattle.krb_wire.proofs.Fields.{some_is, bind_some, ok_is}
+pub use Rattle.krb_wire.proofs.Fields.{some_is, ok_is}
 pub use Rattle.krb_wire.specs.Names.{name_text}
 pub use Rattle.std.proofs.lemmas.List.Concat.{flat_map-append}
 pub use Rattle.std.specs.BTreeMap.{BTreeMap, get, Updates, is_at}

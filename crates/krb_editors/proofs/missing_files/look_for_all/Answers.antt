@@ -1,4 +1,4 @@
-use Rattle.krb_editors.proofs.Cited.{refl, sym, arith, [], false, subst, Bool, drop_all, FileName, Keytab, LooksFor}
+use Rattle.krb_editors.proofs.Cited.{refl, arith, [], false, subst, Bool, drop_all, FileName, Keytab, LooksFor}
 use Rattle.krb_driver.specs.declared.file_name.NameSource.TheVariants.{Word}
 use Rattle.krb_editors.proofs.Looking.{one_more, or_false}
 use Rattle.krb_editors.proofs.missing_files.look_for_all.Goals as goal

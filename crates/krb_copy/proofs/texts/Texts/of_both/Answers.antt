@@ -1,4 +1,4 @@
-use Rattle.krb_copy.proofs.Cited.{[], sym, subst, List, name_text, name_texts, AreTexts, PlacedEntry, map-append}
+use Rattle.krb_copy.proofs.Cited.{[], sym, subst, name_text, name_texts, AreTexts, PlacedEntry, map-append}
 use Rattle.krb_copy.proofs.texts.Texts.of_both.Goals as goal
 
 pub returns : goal.returns

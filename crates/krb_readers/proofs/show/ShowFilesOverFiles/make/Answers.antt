@@ -1,4 +1,4 @@
-use Rattle.krb_readers.proofs.Cited.{◌∙◌, ap, inl, inr, Err, err_from_is_err_and, makes-end, Ends}
+use Rattle.krb_readers.proofs.Cited.{◌∙◌, ap, inr, Err, err_from_is_err_and, makes-end, Ends}
 unfoldable use Rattle.krb_driver.specs.Commands.{always}
 use Rattle.krb_readers.specs.Show.{shows}
 use Rattle.krb_readers.proofs.show.ShowFilesOverFiles.make.Goals as goal
