@@ -46,22 +46,22 @@ def must_agree(bench: Bench, *fronts: list[str]) -> None:
 
 
 def beside_c(bench: Bench) -> Iterator[list[str]]:
-    """Yields our listings and those of the programs in C, of which one has to print the same, of damaged files too."""
-    ours, whole, least = [bench.krbfile, "klist", "-k"], [bench.built("whole")], [bench.built("least")]
+    """Yields our listings and those of a program in C, which has to print the same, of damaged files too."""
+    ours, whole = [bench.krbfile, "klist", "-k"], [bench.built("whole")]
     for image in images.damaged():
         (bench.folder / "k").write_bytes(image)
         must_agree(bench, ours, whole)
     for make in (images.services, images.holes, images.quoted):
         name = named(bench, make)
         must_agree(bench, ours, whole)
-        found = times(bench, 51, ours, whole, least)
+        found = times(bench, 51, ours, whole)
         counts = [bench.instructions([*words, "k"]) for words in (ours, whole)]
         yield [name, *(f"{ms:.1f}" for ms in found), f"{found[0] / found[1]:.2f}", f"{counts[0] / counts[1]:.2f}"]
 
 
 def points(bench: Bench) -> Iterator[list[str]]:
     """Yields the times of one listing by its entries."""
-    fronts = [mit("klist"), "-k"], [bench.krbfile, "klist", "-k"], [bench.built("whole")], [bench.built("least")]
+    fronts = [mit("klist"), "-k"], [bench.krbfile, "klist", "-k"], [bench.built("whole")]
     for entries in (step * 10**power for power in range(1, 6) for step in (1, 2, 5)):
         if entries <= SIZES[images.services][bench.quick]:
             (bench.folder / "k").write_bytes(images.services(entries))
