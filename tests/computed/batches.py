@@ -55,8 +55,7 @@ def row_within(case: Case, days: set[int]) -> str:
 
 
 def rows_of(seen: Iterable[Case]) -> dict[int, tuple[Case, str]]:
-    """Returns the runs that the definitions compute, each once, with its theorem, by number; prints how many they do not,
-    and why."""
+    """Returns the runs that the definitions compute, with their theorems, by number; prints why they do not others."""
     found: dict[str, Case] = {}
     days: set[int] = set()
     why: Counter[str] = Counter()
