@@ -1,4 +1,4 @@
-# make try        lists a sample keytab by a program of which nothing is proved
+# make try        shows a file by the unproved program, FILE=PATH, or a sample keytab
 # make check      runs the tests over such a program: minutes, for who changes a line
 # make            proves the program and builds bin/krbfile
 # make static     builds bin/krbfile-static, which needs no C library where it runs and starts sooner
@@ -63,8 +63,12 @@ PAGES = $(DOCUMENTS) $(wildcard docs/*) $(EXAMPLES) $(MODULE) $(LINKED) completi
 
 all: $(PROGRAM)
 
+# Ends where there is no toolchain.
+need_rt = @command -v rt >/dev/null || { echo "rt is not on the path: install the Rattle toolchain" >&2; exit 1; }
+
 # What make test left is not proved again.
 $(BUILT): $(SOURCES)
+	$(need_rt)
 	tests/prove krbfile
 
 $(PROGRAM): $(BUILT)
@@ -101,9 +105,11 @@ $(LINKER_NAME): $(SHARED)
 	ln -sf $(notdir $(SHARED)) $@
 
 try:
-	cd crates/krbfile && rt try -- klist -k data/k
+	$(need_rt)
+	cd crates/krbfile && rt try -- show "$(if $(FILE),$(abspath $(FILE)),data/k)"
 
 check:
+	$(need_rt)
 	tests/unproved bin/unproved/krbfile
 	tests/run --unproved --program bin/unproved/krbfile
 	@echo "Nothing was proved: make and make test prove."
@@ -170,11 +176,11 @@ install-python:
 install: install-program install-lib install-python
 
 uninstall:
-	rm -f $(addprefix $(DESTDIR),$(BINDIR)/krbfile $(INCLUDEDIR)/krbfile.h $(LIBDIR)/libkrbfile.a $(LIBDIR)/libkrbfile.so \
+	for path in $(BINDIR)/krbfile $(INCLUDEDIR)/krbfile.h $(LIBDIR)/libkrbfile.a $(LIBDIR)/libkrbfile.so \
 		$(LIBDIR)/libkrbfile.so.1 $(LIBDIR)/pkgconfig/krbfile.pc $(MANDIR)/man1/krbfile.1 $(MANDIR)/man5/krbfile.5 \
 		$(patsubst %,$(MANDIR)/man3/%.3,krbfile $(CALLS)) $(DATADIR)/bash-completion/completions/krbfile \
-		$(DATADIR)/zsh/site-functions/_krbfile $(DATADIR)/fish/vendor_completions.d/krbfile.fish)
-	rm -rf $(DESTDIR)$(DOCDIR) $(if $(PYTHONDIR),$(DESTDIR)$(PYTHONDIR)/krbfile)
+		$(DATADIR)/zsh/site-functions/_krbfile $(DATADIR)/fish/vendor_completions.d/krbfile.fish $(DOCDIR) \
+		$(if $(PYTHONDIR),$(PYTHONDIR)/krbfile); do rm -rf "$(DESTDIR)$$path"; done
 
 # Puts what pip builds the module from into $(1).
 define put_project
