@@ -92,7 +92,7 @@ def check_installed(report: Report, program: str) -> None:
         report.check("krbfile.pc", [] if "\nlibdir=/LIBDIR\n" in text and "@" not in text else [text])
         report.check("make uninstall", made(*words, "uninstall") + [*files_in(root)])
         Path(root, "a").touch()
-        report.check("and below a blank", made(f"DESTDIR={root}/a b", "uninstall") + [*{"a"}.difference(files_in(root))])
+        report.check("below a blank", made(f"DESTDIR={root}/a b", "uninstall") + [*{"a"}.difference(files_in(root))])
         report.check("nothing is built for it", [] if made(*words, "PROGRAM=no", "install") else ["it is installed"])
 
 

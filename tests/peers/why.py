@@ -25,7 +25,7 @@ def check(report: Report, program: str) -> None:
         ours = run(program, ("klist", "-k", "d"), folder)
         report.check("ours reports it", [f"{ours}"] * (ours.status != 1 or not ours.out.endswith(b"\nfault 1 at 98\n")))
         merged = mit(folder, "ktutil", typed="rkt no\nrkt a\nrkt b\nwkt n\nq\n")
-        report.check("ktutil ends with 0", [f"{merged}"] * (merged.returncode != 0 or "No such file" not in merged.stderr))
+        report.check("ktutil ends with 0", [f"{merged}"] * (merged.returncode != 0 or "No such" not in merged.stderr))
         entries = mit_klist(folder, "-kt", "n").decode().splitlines()[3:]
         report.check("ktutil merges with doubles", [f"{entries}"] * (len(entries) != 4))
         report.check("ktutil sets times to now", [each for each in entries if "11/14/23" in each or "01/01/70" in each])

@@ -100,7 +100,7 @@ NEAR: dict[tuple[str, str], str] = {
     ("unknown option --expired=yes", "--expired"): "ccremove --expired=yes k",
     ("unknown option --with-file-name", "--with-filename"): "ktcheck --with-file-name k",
     **{(f"unknown command {word}", meant): word for meant, words in ELSEWHERE.items() for word in words.split()},
-    ("unknown option --dry", "--dry-run"): "ktremove --dry -e 17 k", ("unknown option --v=1", "--v1-big"): "ktcheck --v=1 k",
+    ("unknown option --dry", "--dry-run"): "ktremove --dry k", ("unknown option --v=1", "--v1-big"): "ktutil --v=1",
     ("unknown command ktdif", "ktdiff"): "ktdif k t", ("unknown option --sa", "--as"): "ktcopy -p b@R --sa c@R k t",
 }
 
