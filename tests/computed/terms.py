@@ -64,7 +64,7 @@ class Words:
         try:
             options, operands = gnu_getopt(rest, "".join(letters), [*LONG, *names])
         except GetoptError as error:
-            raise NotComputed("an option that the command has not") from error
+            raise NotComputed("help, or an option that the command has not") from error
         long = {f"-{letter[0]}": name for letter, name in letters.items()}
         those = [(long.get(word, word[2:]), value) for word, value in options]
         takes = {name[:-1] for name in (*LONG, *names) if "=" in name}

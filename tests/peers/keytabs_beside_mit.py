@@ -52,7 +52,8 @@ LINES = ["rkt j", "rkt k", "delent 1", f"addent -key -p host/z@R -k 300 -e aes25
 NARROW = Entry((b"a", b"b"), version32=None)
 # Each name of an encryption type, in either case.
 BY_NAMES = [*(f"addent -key -p a@R -k {at} -e {word}\n{KEY[:2 * KEY_SIZES[number]]}"
-              for at, (name, number) in enumerate(BY_NAME.items(), 1) for word in (name, name.upper())), "wkt n"]
+              for at, (name, number) in enumerate(BY_NAME.items(), 1) if "-" in name for word in (name, name.upper())),
+            "wkt n"]
 
 # Runs at the time of the entries, and lines of MIT's ktutil that leave the same files: it sets the time of all that it
 # writes. The keytabs of the copies have no entry in common.
