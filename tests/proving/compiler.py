@@ -92,7 +92,8 @@ def libraries(crate: str) -> list[str]:
 
 def sources(crate: str) -> list[str]:
     """Returns the options that name those libraries as sources, of which nothing need be proved."""
-    words, of_kit = ["-L", f"dependency={os.path.join(kit(), 'rlibs')}"], {"std"}
+    own = crates()[crate][1]
+    words, of_kit = ["-L", f"dependency={os.path.join(kit(), 'rlibs')}"], {"std", *own} - set(crates())
     for it in sorted(below(crate)):
         uses = crates()[it][1]
         words += ["--lib", f"{it}:{','.join(['std', *uses])}={os.path.join(TOP, 'crates', it, 'src', 'lib.rt')}"]
@@ -141,11 +142,15 @@ def clauses_of(output: str) -> dict[str, list[str]]:
     return found
 
 
+def of_functions(crate: str, only: Iterable[str], kept: str, are_sources: bool = False) -> list[str]:
+    """Returns the command that checks functions of a crate and those that they call, and keeps in `kept` what is proved."""
+    words = [*command("check", crate, 1, are_sources=are_sources), "--incremental", kept]
+    return [*words, *(word for function in only for word in ("--only", function))]
+
+
 def check_functions(crate: str, folder: str, only: Iterable[str], kept: str) -> Answer:
     """Checks functions of the crate in a folder. Stores what is proved in `kept`, for later checks of the crate."""
-    words = [*command("check", crate, 1), "--incremental", kept]
-    for function in only:
-        words += ["--only", function]
+    words = of_functions(crate, only, kept)
     done = subprocess.run(words, cwd=folder, stdin=subprocess.DEVNULL, stdout=subprocess.PIPE,
                           stderr=subprocess.STDOUT, text=True, errors="replace", check=False)
     rejected = REJECTED.search(done.stdout)

@@ -110,11 +110,19 @@ def copy_crate(crate: str, folder: str) -> None:
             shutil.copytree(source, os.path.join(folder, part))
 
 
-def apply(pairs: tuple[Pair, ...], folder: str) -> None:
-    """Applies an edit to the copy of its crate in a folder."""
+def changed(pairs: tuple[Pair, ...], folder: str) -> dict[Path, str]:
+    """Returns the files of the crate in a folder that an edit changes, as it makes them."""
+    texts: dict[Path, str] = {}
     for pair in pairs:
         path = Path(folder, pair.path)
-        text = path.read_text("utf-8")
+        text = texts[path] if path in texts else path.read_text("utf-8")
         if text.count(pair.old) != 1:
             raise BadEdit(f"{pair.path} has {text.count(pair.old)} times, not once: {pair.old}")
-        path.write_text(text.replace(pair.old, pair.new), "utf-8")
+        texts[path] = text.replace(pair.old, pair.new)
+    return texts
+
+
+def apply(pairs: tuple[Pair, ...], folder: str) -> None:
+    """Applies an edit to the copy of its crate in a folder."""
+    for path, text in changed(pairs, folder).items():
+        path.write_text(text, "utf-8")
