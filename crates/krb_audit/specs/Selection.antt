@@ -8,7 +8,7 @@ use Rattle.krb_wire.specs.Spelling.{Parts}
 use Rattle.krb_keytab.specs.Entry.{EntryParts}
 use Rattle.krb_keytab.specs.Find.{PlacedEntry, placed_entries}
 use Rattle.krb_keytab.specs.Store.{KeytabState}
-use Rattle.krb_text.specs.Listing.{removed_line}
+use Rattle.krb_keytab_text.specs.Listing.{removed_line}
 use Rattle.krb_audit.specs.declared.selection.SelectedKvno.{SelectedKvno}
 use Rattle.krb_audit.specs.declared.selection.SelectedKvno.TheVariants.{Any, Exactly, Newest, Old, OldFor}
 use Rattle.krb_audit.specs.declared.selection.Selection.{Selection}

@@ -9,7 +9,8 @@ use crate::criteria::is_named_if_it_matters;
 use crate::kvno_marks::SelectedVersions;
 use crate::name_filter::NameFilter;
 use krb_keytab::{EntryView, Keytab};
-use krb_text::{append, append_placed};
+use krb_keytab_text::append_placed;
+use krb_text::append;
 use krb_wire::NoMemory;
 use std::alloc::Allocator;
 

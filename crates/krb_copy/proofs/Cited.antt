@@ -12,14 +12,14 @@ pub use Rattle.krb_copy.specs.Copying.{run_over, as_found, asked_as, renamed, st
 pub use Rattle.krb_copy.specs.Laws.{IsInPlace, AllStay, OthersStay, changes_of, Has, NothingElse, GoesByItsEntries, AreEntries, ChangesAreTold, SecondDoesNothing, changes_over, AreHistories, HasEachAsked}
 pub use Rattle.krb_copy.specs.Made.{IsRun, IsMade, name_in, IsRefusal, IsRefusedBy, EndsBy, Meets, Ends}
 pub use Rattle.krb_copy.specs.Texts.{name_texts, AreNames, AreTexts, asked_texts, entry_texts}
-pub use Rattle.krb_audit.specs.Twins.{are_twins, are_same}
+pub use Rattle.krb_names.specs.Twins.{are_twins, are_same}
 pub use Rattle.krb_keytab.proofs.AfterChanges.{put_gives, cut_gives, added_reads, removed_none}
 pub use Rattle.krb_keytab.proofs.StoreChanges.{removal_cuts, addition_puts, cuts_ran}
 pub use Rattle.krb_keytab.specs.Changes.{without, put_result, cut_result, with_hole}
 pub use Rattle.krb_keytab.specs.Entry.{EntryParts, entry_at}
 pub use Rattle.krb_keytab.specs.Find.{PlacedEntry, placed_entries}
 pub use Rattle.krb_keytab.specs.Store.{KeytabState, entry_at_place, store_of, store_cell, InMemory}
-pub use Rattle.krb_text.specs.Listing.{removed_line, placed_line}
+pub use Rattle.krb_keytab_text.specs.Listing.{removed_line, placed_line}
 pub use Rattle.krb_walk.specs.Events.{cut_store, SessionState, after, put_store}
 pub use Rattle.krb_walk.specs.declared.refusal.Code.{Code}
 pub use Rattle.krb_wire.proofs.Fields.{some_is, ok_is}

@@ -10,7 +10,7 @@ use Rattle.krb_keytab.specs.Find.{PlacedEntry, placed_entries}
 use Rattle.krb_keytab.specs.Form.{IsEntry}
 use Rattle.krb_keytab.specs.Rewrite.{keytab_rules}
 use Rattle.krb_keytab.specs.Store.{KeytabState, entry_at_place}
-use Rattle.krb_audit.specs.Twins.{are_twins, are_same}
+use Rattle.krb_names.specs.Twins.{are_twins, are_same}
 use Rattle.krb_copy.specs.Copying.{Held, Run, Step, There, Clash, Copy, copy_run, has_lines, run_after, run_start, step_of}
 
 -- the keytab has an entry with name, version, enctype and key of this one

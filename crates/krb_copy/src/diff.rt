@@ -4,7 +4,7 @@ ghost use Rattle.std.specs.Prelude.{◌≡◌, ◌∷◌, ◌++◌, ◌||◌, �
 ghost use Rattle.std.specs.Prelude.{codes, fold, get_or, if◌then◌else◌, map, slice_set, true};
 ghost use Rattle.std.specs.List.{All, flat_map};
 ghost use Rattle.krb_keytab.specs.Find.{PlacedEntry};
-ghost use Rattle.krb_text.specs.Listing.{placed_line};
+ghost use Rattle.krb_keytab_text.specs.Listing.{placed_line};
 ghost use Rattle.krb_copy.specs.Diff.{diff_text};
 ghost use Rattle.krb_copy.specs.DiffRows.{AreKeys, first_place, has_key, lacks, marked, row_line, rows_due, shown};
 ghost use Rattle.krb_copy.specs.Texts.{AreTexts, name_texts};
@@ -12,7 +12,8 @@ ghost use Rattle.krb_copy.specs.Texts.{AreTexts, name_texts};
 use crate::numbering::{Numbering, Row};
 use crate::texts::Texts;
 use krb_keytab::EntryView;
-use krb_text::{append_labelled, append_placed};
+use krb_keytab_text::append_placed;
+use krb_text::append_labelled;
 use krb_wire::NoMemory;
 use std::alloc::Allocator;
 use std::collections::BTreeSet;

@@ -14,14 +14,14 @@ use Rattle.krb_ccache.specs.Open.{open_fault_phrase as cc_phrase}
 use Rattle.krb_files.specs.declared.cause.Cause.{Cause}
 use Rattle.krb_files.specs.declared.cause.Cause.TheVariants.{InTheWay, System}
 use Rattle.krb_files.specs.Phrases.{cause_phrase}
-use Rattle.krb_cache_text.specs.Escape.{escaped_text}
+use Rattle.krb_text.specs.Escape.{escaped_text}
 use Rattle.krb_text.specs.declared.line_fault.LineFault.{LineFault}
 use Rattle.krb_text.specs.declared.line_fault.LineFault.TheVariants.{UnknownWord}
 use Rattle.krb_text.specs.LineFault.{line_phrase, ktutil_phrase}
-use Rattle.krb_audit.specs.Table.{has, row_of}
-use Rattle.krb_audit.specs.declared.finding.Finding.{Finding}
-use Rattle.krb_audit.specs.declared.finding.TheConstants.{FINDINGS}
-use Rattle.krb_audit.specs.declared.finding_set.FindingSet.{FindingSet}
+use Rattle.krb_findings.specs.Table.{has, row_of}
+use Rattle.krb_findings.specs.declared.finding.Finding.{Finding}
+use Rattle.krb_findings.specs.declared.finding.TheConstants.{FINDINGS}
+use Rattle.krb_findings.specs.declared.finding_set.FindingSet.{FindingSet}
 use Rattle.krb_driver.specs.declared.error.RunError.{RunError}
 use Rattle.krb_driver.specs.declared.file_name.NameSource.{NameSource}
 use Rattle.krb_driver.specs.declared.file_name.NameSource.TheVariants.{Word, LikePrincipal, CacheVariable, KeytabVariable, Default}

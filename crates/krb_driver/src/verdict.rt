@@ -4,7 +4,7 @@ ghost use Rattle.std.specs.Prelude.{◌≡◌};
 ghost use Rattle.krb_driver.specs.RunErrors.{hiding, listing_verdict, verdict_status};
 
 use crate::reporting::reported::Reported;
-use krb_audit::{FindingSet, WeakEtypes};
+use krb_findings::{FindingSet, WeakEtypes};
 use krb_walk::Fault;
 use krb_wire::Order;
 

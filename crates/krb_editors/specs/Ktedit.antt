@@ -8,7 +8,7 @@ use Rattle.krb_keytab.specs.Rewrite.{keytab_rules}
 use Rattle.krb_keytab.specs.Store.{KeytabState, image_of}
 use Rattle.krb_files.specs.Loading.{Answer}
 use Rattle.krb_files.specs.Plan.{Ends}
-use Rattle.krb_text.specs.Reply.{reply_text}
+use Rattle.krb_keytab_text.specs.Reply.{reply_text}
 use Rattle.krb_audit.specs.Findings.{hides_added}
 use Rattle.krb_driver.specs.declared.file_name.FileName.{FileName}
 use Rattle.krb_driver.specs.declared.verdict.FileKind.TheVariants.{Keytab}

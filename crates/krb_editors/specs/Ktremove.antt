@@ -7,7 +7,7 @@ use Rattle.krb_keytab.specs.Changes.{without}
 use Rattle.krb_keytab.specs.Find.{PlacedEntry, placed_entries}
 use Rattle.krb_keytab.specs.Store.{KeytabState, image_of}
 use Rattle.krb_files.specs.Plan.{Ends}
-use Rattle.krb_text.specs.Listing.{removed_line}
+use Rattle.krb_keytab_text.specs.Listing.{removed_line}
 use Rattle.krb_text.specs.Numbers.{seconds_in}
 use Rattle.krb_audit.specs.declared.selection.SelectedKvno.{SelectedKvno}
 use Rattle.krb_audit.specs.declared.selection.SelectedKvno.TheVariants.{Old, OldFor}

@@ -20,7 +20,7 @@ use Rattle.krb_files.specs.declared.files.LoadFault.{LoadFault}
 use Rattle.krb_files.specs.Loading.{Answer, most_bytes}
 use Rattle.krb_files.specs.Bytes.{Source}
 use Rattle.krb_text.specs.declared.line_fault.LineFault.{LineFault}
-use Rattle.krb_text.specs.Script.{script_by}
+use Rattle.krb_keytab_text.specs.Script.{script_by}
 use Rattle.krb_driver.specs.declared.error.RunError.{RunError}
 use Rattle.krb_driver.specs.declared.error.RunError.TheVariants.{NoMemory}
 use Rattle.krb_driver.specs.declared.command.World.{World}

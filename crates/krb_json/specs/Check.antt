@@ -5,13 +5,13 @@ use Rattle.json.specs.Json.{Json, null, string}
 use Rattle.krb_wire.specs.Names.{name_text}
 use Rattle.krb_keytab.specs.Find.{PlacedEntry}
 use Rattle.krb_audit.specs.declared.counts.Counts.{Counts}
-use Rattle.krb_audit.specs.declared.finding.Finding.{Finding}
-use Rattle.krb_audit.specs.declared.finding.Finding.TheVariants.{Mode, Missing, Empty}
-use Rattle.krb_audit.specs.declared.finding.TheConstants.{ABOUT_ENTRIES}
+use Rattle.krb_findings.specs.declared.finding.Finding.{Finding}
+use Rattle.krb_findings.specs.declared.finding.Finding.TheVariants.{Mode, Missing, Empty}
+use Rattle.krb_findings.specs.declared.finding.TheConstants.{ABOUT_ENTRIES}
 use Rattle.krb_audit.specs.CheckUp.{CheckParts, has_mode, is_open}
-use Rattle.krb_audit.specs.Findings.{Marked}
+use Rattle.krb_audit.specs.Findings.{Marked, first_for}
 use Rattle.krb_audit.specs.Report.{mode_digits}
-use Rattle.krb_audit.specs.Table.{first_for, has, row_of}
+use Rattle.krb_findings.specs.Table.{has, row_of}
 use Rattle.krb_json.specs.Escaped.{json_text}
 use Rattle.krb_json.specs.Members.{Member, object_of, array_of, number_of, text_member, fault_value, status_members}
 

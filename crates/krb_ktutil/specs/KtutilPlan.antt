@@ -25,7 +25,7 @@ use Rattle.krb_driver.specs.FileNames.{bare_name, has_type, is_other_type}
 use Rattle.krb_driver.specs.Loading.{keytab_of, keytab_or_new, result_map}
 use Rattle.krb_driver.specs.RunErrors.{no_keytab_error}
 use Rattle.krb_audit.specs.Findings.{hides_added}
-use Rattle.krb_text.specs.Listing.{slot_text}
+use Rattle.krb_keytab_text.specs.Listing.{slot_text}
 use Rattle.krb_text.specs.Word.{key_word}
 use Rattle.krb_ktutil.specs.KtutilCommand.{fault_error, is_word, trimmed, words, Awaited, Command, Skip, ListSlots, ReadFile, WriteFile, AwaitKey, DeleteSlot, ClearList, Quit, asks_for_password, command_of}
 use Rattle.krb_walk.specs.declared.refusal.Refusal.{Refusal}

@@ -1,6 +1,6 @@
 -- What ktcheck shows of a file, as JSON, and of one that gave no keytab.
 use Rattle.krb_readers.proofs.Cited.{◌≡◌, ℕ, List, [], cond, inr, refl, sym, ap, subst, Bool, true, false, IsFalse, Ok, Err, Appends, CheckParts, EndsAfter, ShowsPage, output_error, verdict_status, Appends-nil, AppendsPrefix-none, Watch, OutFault, Ends, check_json_text, Prints, found_verdict, is_silent, object_page, refused_effect}
-use Rattle.krb_audit.specs.declared.finding_set.FindingSet.{FindingSet}
+use Rattle.krb_findings.specs.declared.finding_set.FindingSet.{FindingSet}
 use Rattle.krb_driver.specs.declared.error.RunError.TheVariants.{NoMemory}
 use Rattle.krb_driver.specs.declared.file_name.FileName.{FileName}
 use Rattle.krb_driver.specs.declared.verdict.Verdict.{Verdict}

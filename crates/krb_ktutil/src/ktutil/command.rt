@@ -6,7 +6,8 @@ ghost use Rattle.krb_ktutil.specs.KtutilCommand.{words, after, are_none, only, f
 ghost use Rattle.krb_text.specs.Word.{number_word};
 
 use crate::ktutil::words::next_word;
-use krb_text::{KtColumns, LineFault, number_word};
+use krb_keytab_text::KtColumns;
+use krb_text::{LineFault, number_word};
 
 /// Returns whether there is no word.
 pub fn is_bare(rest: &[u8]) -> bool
