@@ -10,6 +10,7 @@ use crate::counts::Counts;
 use crate::findings::Marked;
 use crate::mode::{append_mode_digits, is_open};
 use krb_keytab::EntryView;
+use krb_findings::{ABOUT_ENTRIES, Finding, FindingSet};
 use krb_keytab_text::append_placed;
 use krb_text::{append, append_byte, append_fault_line, append_labelled};
 use krb_walk::Fault;
