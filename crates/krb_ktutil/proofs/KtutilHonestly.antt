@@ -121,7 +121,7 @@ module _ {F : Type 0} (trait : Ghosts F) (prompts : Bool) (now number : ℕ) (li
           reported = record {
             details = f.details;
             reported = subst (λ (e : Ending). Reports (about due.effect) (Some number) f.details e asked new.err end.status) done.1 reported;
-            untold = λ other. f.told ∙ ap (λ (b : Bool). if b && not (is_spent end.ending) then trait.aftermath new.files else None) (ap is_save is.0.effect_is ∙ other);
+            untold = λ other. f.left_behind ∙ ap (λ (b : Bool). if b && not (is_spent end.ending) then trait.aftermath new.files else None) (ap is_save is.0.effect_is ∙ other);
           };
           worst = handles.worst;
         },
@@ -134,7 +134,7 @@ module _ {F : Type 0} (trait : Ghosts F) (prompts : Bool) (now number : ℕ) (li
       let end = handles.end in
       let done = (subst (ShowsEnd old.out new.out end.ending) spent.1.1 f.shown).done well in
       let left = λ (b : Bool). if b then trait.aftermath new.files else None in
-      let untold = f.told ∙ ap (λ (e : Ending). left (is_save handles.effect && not (is_spent e))) done.1 ∙ ap left (and-false (is_save handles.effect)) in
+      let untold = f.left_behind ∙ ap (λ (e : Ending). left (is_save handles.effect && not (is_spent e))) done.1 ∙ ap left (and-false (is_save handles.effect)) in
       let reported = subst (λ (e : Ending). Reports (about f.left) (Some number) f.details e asked new.err end.status) done.1 f.reported in
       let bare = subst (λ (a : Option Aftermath). Reports (about f.left) (Some number) (record f.details { aftermath = a }) (Err NoMemory) asked new.err end.status) untold reported in (
         done.1,
