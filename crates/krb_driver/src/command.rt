@@ -184,7 +184,7 @@ fn is_save<A: Allocator, S: Drop>(made: &Result<Made<A, S>, FileError<'_>>) -> b
     matches!(made, Ok(Made::Saves(_, _)))
 }
 
-// Returns what to report of a run, or of a line of ktutil: what a save left behind only if it was their own.
+// Returns what to report of a run, or of a line of ktutil: each reports only what its own save left behind.
 fn details_to_report<'a>(
     line: Option<u64>,
     saves: bool,

@@ -1,6 +1,6 @@
 //! The words of a command, as help shows them.
 
-/// An option or an operand: its name, long if it is an option's, its letter, the name of its value, and its help text.
+/// An option: its long name, its letter and the name of its value if it has them, and its help text. Or an operand.
 #[derive(Clone, Copy)]
 pub enum Word {
     Flag(&'static str, char, &'static str),
