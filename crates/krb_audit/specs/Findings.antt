@@ -33,11 +33,11 @@ first_hidden xs = option_map (λ x. x.0) (find (λ x. ends_mit x.1) xs)
 abbrev pub hidden_from : KeytabState → Option ℕ
 hidden_from k = first_hidden (placed_entries k)
 
--- that place, if one of these is not before it
+-- `from`, if one of `places` is at or after it
 abbrev pub hidden_at : List ℕ → ℕ → Option ℕ
 hidden_at places from = if list_any (λ p. nat_le from p) places then Some from else None
 
--- the place from which on they see no entry, if one of the entries that were added, at these places, is among those
+-- the place from which on they see no entry, if an entry was added there or later
 abbrev pub hides_added : KeytabState → List ℕ → Option ℕ
 hides_added k added = option_and_then (hidden_at added) (hidden_from k)
 

@@ -23,7 +23,7 @@ pub enum SelectedKvno {
     Newest,
     /// Any kvno other than that of the newest entry of the name.
     Old,
-    /// The same, of names whose entries of the newest kvno are all at least so many seconds old.
+    /// The same, of names whose entries of the newest kvno are all at least that many seconds old.
     OldFor(u32),
 }
 

@@ -260,9 +260,8 @@ fn diff_by<'t, A: Allocator + Copy>(
     text_of(alloc, numbering.count() as usize, &our_rows, &other_rows)
 }
 
-/// Returns the lines of what two lists of entries do not share: for each name, kvno and enctype at most one. `-` begins
-/// that of one that ours alone have, `!` that of one that both have, though not with the same keys, and `+` that of one
-/// that the others alone have; the lines are in the order of first entries. Takes time n log n in the bytes of both.
+/// Returns a line for each name, kvno and enctype whose keys differ, in the order of first entries: `-` if ours alone
+/// have it, `+` if the others alone do, `!` if both do, with other keys. Takes time n log n in the bytes of both.
 pub fn diff_text<A: Allocator + Copy>(
     alloc: A,
     ours: &[(u32, EntryView<'_>)],

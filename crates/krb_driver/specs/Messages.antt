@@ -78,7 +78,7 @@ key_start word = key_from true word
 abbrev pub has_key : List ℕ → Bool
 has_key word = nat_lt (key_start word) (length word)
 
--- what stands in the place of what may be a key
+-- what is printed in place of what may be a key
 abbrev pub hidden_word : List ℕ
 hidden_word = codes "a word of hexadecimal digits"
 

@@ -196,6 +196,6 @@ aftermath_status (Some LostChange) = 1
 aftermath_status (Some Mixed) = 1
 aftermath_status other = 0
 
--- the exit status of a run that ended so, and whose save left this behind
+-- the exit status, by the end of the run and what its save left behind
 abbrev pub end_status : Ending → Option Aftermath → ℕ
 end_status ending aftermath = max (ending_status ending) (aftermath_status aftermath)

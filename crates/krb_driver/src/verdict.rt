@@ -44,7 +44,7 @@ pub enum Verdict {
     Found(Findings),
     /// No entry, or no ticket, is selected.
     NothingToRemove(FileKind),
-    /// The same, of one of several files, which is told at their end.
+    /// The same, of one of several files, which is reported at their end.
     Without,
     /// Two keytabs do not have the same keys.
     Differ,

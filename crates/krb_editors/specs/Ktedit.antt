@@ -17,7 +17,7 @@ use Rattle.krb_driver.specs.Loading.{keytab_or_empty}
 use Rattle.krb_editors.specs.Sessions as session
 use Rattle.krb_editors.specs.Sessions.{may_change}
 
--- the place from which on MIT's programs see no entry after events over a keytab, if one that these added is among those
+-- the place from which on MIT's programs see no entry after the script, if it added an entry there or later
 abbrev pub hidden : List (Event EntryParts) → KeytabState → Option ℕ
 hidden events keytab = hides_added (session.left keytab_rules keytab events) (session.added keytab_rules keytab events)
 

@@ -93,7 +93,7 @@ module _ {S I : Type 0} (rules : Rules S I) (store : S) (events : List (Event I)
   abbrev pub left : S
   left = (state_after rules (new_session store) events).store
 
-  -- the places at which entries that they added stand after them
+  -- the places of the entries that they added, after them
   abbrev pub added : List ℕ
   added = followed_over rules [] moments
 

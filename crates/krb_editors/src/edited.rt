@@ -1,4 +1,4 @@
-//! Reads a script, and tells what to save and print after its session.
+//! Reads a script, and returns what to save and print after its session.
 
 ghost use Rattle.std.specs.Prelude.{◌≡◌, ℕ, List, IfOk, Ok, map};
 ghost use Rattle.std.specs.List.{list_any};

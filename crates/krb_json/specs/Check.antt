@@ -20,7 +20,7 @@ abbrev pub mode_value : Option ℕ → Json
 mode_value None = null
 mode_value (Some mode) = string (mode_digits mode)
 
--- what stands before the findings: the name of the file, its mode, and how many entries and holes there are
+-- what comes before the findings: the name of the file, its mode, and how many entries and holes there are
 unfoldable pub check_members : List ℕ → Option ℕ → Counts → List Member
 check_members file mode counts =
     (codes "file", string file)

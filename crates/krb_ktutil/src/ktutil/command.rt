@@ -84,7 +84,7 @@ fn with_column(columns: KtColumns, option: &[u8]) -> Option<KtColumns>
     }
 }
 
-/// Parses the options of a listing, each of which may be given once.
+/// Parses the options of a listing. Each may be given once.
 pub fn columns(rest: &[u8]) -> Option<KtColumns>
     ensures { result ≡ columns_in plain_columns (words rest.now) }
 {
