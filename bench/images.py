@@ -46,7 +46,7 @@ def holes(count: int) -> bytes:
 
 
 def quoted(entries: int) -> bytes:
-    """Returns entries whose name has 30,000 bytes, each of which is printed as two."""
+    """Returns entries whose name has 30,000 bytes. Each is printed as two."""
     name = (QUOTED * (30_000 // len(QUOTED) + 1))[:30_000]
     return keytab(*[Entry((name,), b"R", version8=1, version32=1, key=bytes(16))] * entries)
 

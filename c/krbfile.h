@@ -1,6 +1,6 @@
 /* Keytabs and credential caches (the FILE type) of MIT Kerberos, in memory: bytes in, bytes out. krbfile(3) says more.
  *
- * A caller owes what stands here, and each call then does what it says:
+ * If the caller keeps these rules, each call does what it says:
  * - A handle begins as KRBF_NONE. Open and create are given an empty one: KRBF_NONE, or one that they refused or that
  *   was closed. Close is given an empty one, and then does nothing, or an open one. Each other call is given one that
  *   open or create returned KRBF_DONE for and that is not closed.
@@ -22,7 +22,7 @@
 extern "C" {
 #endif
 
-/* What a call returns, and the MIT error that it stands for. */
+/* What a call returns, and the MIT error that it means. */
 enum {
     KRBF_DONE = 0,
     KRBF_NO_MEMORY = 1,                 /* ENOMEM */
@@ -40,7 +40,7 @@ enum {
     KRBF_TOO_LONG = 32,                 /* a part does not fit the number that holds its length */
     KRBF_FULL = 33,                     /* the image would be beyond the limit */
     KRBF_NOT_A_PLACE = 34,              /* nothing begins or ends at this cursor */
-    KRBF_NOT_LIVE = 35,                 /* nothing that is not removed stands at this place */
+    KRBF_NOT_LIVE = 35,                 /* nothing is at this place, or it was removed */
     KRBF_READ_ONLY = 38,                /* a cache of version 3 */
     KRBF_NOT_FOUND = 39,                /* KRB5_KT_NOTFOUND, KRB5_CC_NOTFOUND */
     KRBF_KVNO_NOT_FOUND = 40,           /* KRB5_KT_KVNONOTFOUND */
@@ -63,7 +63,7 @@ typedef struct {
 } krbf_keytab;
 
 typedef struct {
-    uint32_t place;                     /* where it stands, in bytes from the front */
+    uint32_t place;                     /* where it is, in bytes from the front */
     uint32_t kvno;
     uint32_t timestamp;                 /* seconds since 1970, as all times here */
     uint32_t name_type;

@@ -11,7 +11,7 @@ from typing import Union
 AnyPath = Union[str, bytes, "os.PathLike[str]", "os.PathLike[bytes]"]
 FileName = Union[str, bytes]
 
-# The types of which one is taken off a name, of keytabs and of caches; and how a name of any type begins.
+# The types that are taken off a name, of keytabs and of caches; and how a name of any type begins.
 TYPES = {"kt": (b"FILE:", b"WRFILE:"), "cc": (b"FILE:", b"DIR::")}
 TYPED = re.compile(rb"[A-Za-z]{2,}:")
 
@@ -59,7 +59,7 @@ def operand(name: FileName) -> str:
 
 
 def failed(what: str, error: OSError, name: FileName) -> OSError:
-    """Returns the error anew, in words: what could not be done to the file of that name, and why."""
+    """Returns the error again, in words: what could not be done to the file of that name, and why."""
     return OSError(error.errno, f"{what}: {PHRASES.get(error.errno or 0, f'error {error.errno}')}", name)
 
 

@@ -22,7 +22,7 @@ def listed(default: bytes, *lines: bytes, name: bytes = b"c") -> bytes:
 # The line that each column adds.
 ADDED = {"f": b"    Flags: FRIA", "e": b"    Etype: aes128-cts-hmac-sha1-96", "C": b"config: pa_type(krbtgt/R@R) = 2"}
 
-# A name of the greatest count, of which there is the realm.
+# A name of the greatest count, which has its realm alone.
 MANY = Name((), count=2**32 - 1)
 
 # How an overview begins.

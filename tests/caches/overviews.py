@@ -22,9 +22,9 @@ def overview(line: str | Line, *lines: bytes, files: dict[str, bytes] | None = N
              **more) -> Explained:
     """Returns a run over some files, its lines, and the messages about those that are no caches."""
     words = ("klist", *words_of(line))
-    told = [NONE[word] for word in words if word in NONE]
-    more = {"status": max([status for _, status in told], default=0), "after": files or FILES, **more}
-    return Explained(shown(words), words, more.pop("output", tuple(each for each, _ in told)), files or FILES,
+    missing = [NONE[word] for word in words if word in NONE]
+    more = {"status": max([status for _, status in missing], default=0), "after": files or FILES, **more}
+    return Explained(shown(words), words, more.pop("output", tuple(each for each, _ in missing)), files or FILES,
                      out=front + b"".join(lines), **more)
 
 
@@ -32,7 +32,7 @@ def overview(line: str | Line, *lines: bytes, files: dict[str, bytes] | None = N
 PRINCIPALS = {b"x" * size + b"@R": Name((b"x" * size,)) for size in (0, 27, 28, 29, 300)} | {
     "é@R".encode(): Name(("é".encode(),)), rb"a\/b\n@R": Name((b"a/b\n",)), b"@": Name((), b"")}
 
-# The tickets of a cache, and the members that tell of them: how many, the last end, and whether that is over.
+# The tickets of a cache, and the members about them: how many, the last end, and whether that is over.
 SUMMARIES: list[tuple[tuple[Credential | bytes, ...], str]] = [
     ((), '0,"endtime":null,"expired":true'),
     ((OVER,), '1,"endtime":1700036000,"expired":true'),

@@ -1,4 +1,4 @@
-"""Removals by `ccremove`: words that select, as they stand on a line. What each selects random removals show.
+"""Removals by `ccremove`: words that select, as they are typed on a line. What each selects random removals show.
 
 Places are counted by hand: a ticket has 108 bytes or 106, pa_type's value 136.
 """
@@ -25,7 +25,7 @@ def tickets(*servers: tuple[bytes, ...]) -> list[Credential]:
     return [replace(TICKET, server=Name(components)) for components in servers]
 
 
-# Tickets that `--all-services` asks for, the lines that tell of them, and tickets that it does not ask for.
+# Tickets that `--all-services` asks for, the lines that report them, and tickets that it does not ask for.
 SERVICES = tickets((), (b"", b"krbtgt"), (b"KRBTGT", b"R"), (b"krbtgts",), (b"krbtgt/R",))
 TOLD = ["removed 22 @R", "removed 115 /krbtgt@R", "removed 222 KRBTGT/R@R", "removed 330 krbtgts@R",
         r"removed 434 krbtgt\/R@R"]

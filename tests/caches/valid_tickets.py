@@ -14,7 +14,7 @@ FUTURE = 2**32 - 1
 
 VALID, NONE, UNREAD = Outcome(0), Outcome(1), Outcome(3)
 
-# Ticket-granting tickets of the default principal's realm, R, one of which is over, and a ticket for host/a@R.
+# Ticket-granting tickets of the default principal's realm, R, one of them over, and a ticket for host/a@R.
 OVER, TGT, HOST = TICKET, replace(TICKET, endtime=FUTURE), of_host(endtime=FUTURE)
 
 
@@ -34,7 +34,7 @@ TICKETS: list[tuple[str, tuple[Credential | bytes, ...], Outcome]] = [
     ("a ticket-granting ticket", (TGT,), VALID),
     ("one that is over", (OVER,), NONE),
     ("another ticket alone", (HOST,), VALID),
-    # One of the default principal's realm decides, wherever it stands.
+    # One of the default principal's realm decides, wherever it is.
     ("one that is over, and another ticket", (OVER, HOST), NONE),
     ("another ticket, and one that is over", (HOST, OVER), NONE),
     # Only of its own realm, by its name: two components in that case, of any type, for any client.
@@ -53,7 +53,7 @@ TICKETS: list[tuple[str, tuple[Credential | bytes, ...], Outcome]] = [
     ("configuration entries", (replace(PA_TYPE, endtime=FUTURE), config_ticket(b"k", endtime=FUTURE)), NONE),
     *((f"a name of a configuration entry and {len(after)} more", (config_ticket(*after, endtime=FUTURE),), wanted)
       for after, wanted in (((), VALID), ((b"k", b"p"), NONE), ((b"k", b"p", b"q"), VALID))),
-    # What follows a fault is not read, what stands before it is.
+    # What follows a fault is not read, what precedes it is.
     ("a damaged tail", (TGT, b"\0"), VALID),
     ("one that is over, and a damaged tail", (OVER, b"\0"), NONE),
     ("a fault before it", (b"\xff" * 9, TGT), NONE),

@@ -128,8 +128,8 @@ found = keytab.find("a@R")
 print(found.kvno == 2**32 - 1, found.enctype == 2**16 - 1, found.key, found.timestamp == 2**32 - 1)
 """
 
-# Bytes of a class that tells another length, cursors that become more whenever they are counted, and stores that were
-# never opened, of which one is not even made whole: they end without a word.
+# Bytes of a class that reports another length, cursors that become more whenever they are counted, and stores that were
+# never opened, one of them not even made whole: they end without a word.
 STRANGE = """
 class Long(bytes):
     def __len__(self):

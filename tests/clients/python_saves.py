@@ -75,7 +75,7 @@ for block in (list, *(lambda it, error=error: stop(it, error) for error in (
 """
 
 # A block that adds an entry and waits for a line. Before, it may fork a child that leaves the block too, one that lives
-# on, or one of which Python does not know, so that it keeps copies of the sockets.
+# on, or one unknown to Python, so that it keeps copies of the sockets.
 BLOCK = """
 from ctypes import PyDLL
 from krbfile import edit_keytab

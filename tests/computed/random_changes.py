@@ -105,7 +105,7 @@ def script_over(random: Random, run: Callable[[bytes], Undisturbed], kinds: dict
 
 
 def places_in(line: str, **files: bytes | None) -> list[int]:
-    """Returns the places of the records that a listing as JSON tells of."""
+    """Returns the places of the records in a listing as JSON."""
     return [int(it) for it in re.findall(rb'"place":(\d+)', undisturbed(line, **files).wanted.out)]
 
 
@@ -223,7 +223,7 @@ def copy(random: Random) -> Iterator[Undisturbed]:
 
 
 def check_same(report: Report, program: str, numbers: range) -> None:
-    """Checks that two keytabs do not differ iff copying each into the other tells nothing."""
+    """Checks that two keytabs do not differ iff copying each into the other reports nothing."""
     wrong, ways = [], (("k", "t"), ("t", "k"))
     for number in numbers:
         random = Random(number)
@@ -231,9 +231,9 @@ def check_same(report: Report, program: str, numbers: range) -> None:
         with folder_of({name: few_entries(random, bool(words)) for name in "kt"}) as folder:
             for way in ways * random.randrange(2):
                 run_program(program, ("ktcopy", *words, *way), folder)
-            diff, *tells = (run_program(program, (*line, *words, *way), folder) for line, way in (
+            diff, *copied = (run_program(program, (*line, *words, *way), folder) for line, way in (
                 (("ktdiff",), ways[0]), *((("ktcopy", "-n"), way) for way in ways)))
-        wrong += [f"{number}: {diff}, {tells}"] * ((diff == Outcome(0)) != (tells == [Outcome(0)] * 2))
+        wrong += [f"{number}: {diff}, {copied}"] * ((diff == Outcome(0)) != (copied == [Outcome(0)] * 2))
     report.check("keytabs that are the same copy nothing", wrong[:3])
 
 

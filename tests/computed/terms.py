@@ -17,7 +17,7 @@ LETTERS = {
 LONG = ("json", "for=", "v1-big", "in-place", "allow=", "older=", "want=", "age=", "as=", "replace",
         "all-services", "expired")
 
-# The names of the operands, of which the last stands for all that follow.
+# The names of the operands; the last one is for all that follow.
 OPERANDS = {"ktfind": ("FILE", "KVNO", "ETYPE", "NAME"), "ktcopy": ("FROM", "TO"), "ktdiff": ("A", "B"),
             "ktutil": ()}
 

@@ -7,7 +7,7 @@ import re
 from dataclasses import replace
 
 from keytabs.listings import KEY_SIZES
-from keytabs.removals import told
+from keytabs.removals import line_of
 from makers.images import B, HOST, TWO, Entry, keytab
 from runs.harness import Case, Outcome, Report, folder_of, over, printed, run, with_mode
 
@@ -69,7 +69,7 @@ def finding_of(line: bytes) -> dict[str, object]:
 
 
 def as_json(name: str, mode: str | None, lines: bytes, status: int) -> bytes:
-    """Returns the object of a file of which there are those lines."""
+    """Returns the object of a file with those lines."""
     *findings, counts = lines[:-1].split(b"\n")
     fault = findings.pop() if findings and findings[-1].startswith(b"fault ") else b""
     counts, fault = (map(int, re.findall(rb"\d+", it)) for it in (counts, fault))
@@ -93,7 +93,7 @@ VERSIONS = (255, 1), (241, 127), (128, 241), (127, 240)
 
 CASES = [
     found("keys of each length", SIZED, *(
-        f"{word} {told(it, *SIZED[:at])}" for at, it in enumerate(SIZED) for word, is_so in (
+        f"{word} {line_of(it, *SIZED[:at])}" for at, it in enumerate(SIZED) for word, is_so in (
             ("weak", it.enctype in (3, 16, 23)),
             ("size", KEY_SIZES.get(it.enctype, len(it.key)) != len(it.key))) if is_so)),
     found("versions that begin again", [

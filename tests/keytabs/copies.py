@@ -7,7 +7,7 @@ from dataclasses import replace
 
 from keytabs.file_names import LIMIT
 from keytabs.greatest import LEAST, with_room
-from keytabs.removals import AES256, DAMAGED, FIVE, FOUR, NOT_FOUND, told
+from keytabs.removals import AES256, DAMAGED, FIVE, FOUR, NOT_FOUND, line_of
 from makers.images import B, HOST, TWO, Entry, keytab, old, record
 from runs.harness import Case, Outcome, message, printed, words_of
 
@@ -46,13 +46,13 @@ def full() -> bytes:
 
 # A row of each rule; random copies show the rest.
 CASES = [
-    *(copy("selected", options, FOUR, None, [f"copied {told(AES256)}"], keytab(AES256)) for options in (
+    *(copy("selected", options, FOUR, None, [f"copied {line_of(AES256)}"], keytab(AES256)) for options in (
         r"-p \host/a@R -e aes256-cts-hmac-sha1-96", "-knew -phost/a@R -e18 -e 18")),
     # The newest version is that of all enctypes, in the keytab that is copied from alone.
     copy("newer of another enctype", "-k new -e 17", keytab(HOST, AES256), None, NOT_FOUND),
     copy("newer where it is copied to", "-k new", keytab(HOST), keytab(FIVE), [f"copied 53 {X}"], keytab(FIVE, HOST)),
     copy("nothing there, all selected", "", keytab(), None, []),
-    # Other keys: without --replace nothing is saved, and a dry run alone tells of the rest.
+    # Other keys: without --replace nothing is saved, and a dry run alone reports the rest.
     copy("another key", "", TWO, keytab(OTHER), printed(f"clash 53 2 {Y}", status=1)),
     copy("another key", "-n", TWO, keytab(OTHER), printed(f"copied 47 {X}", f"clash 53 2 {Y}", status=1)),
     copy("two other keys", "--replace", keytab(B), keytab(OTHER, HOST, THIRD),
@@ -102,7 +102,7 @@ CASES += [
            {"k": keytab(HOST, B, replace(C, name_type=1))}) for image, wanted in (
         (TWO, printed("copied 98 kvno 3 etype 17 c@R")), (keytab(HOST, B, replace(C, name_type=1)), Outcome(0)))),
     copy("its name type", "-k new -p b@R --as=c@R", keytab(replace(C, version32=9), replace(B, name_type=5)),
-         keytab(OTHER), [f"copied {told(C, OTHER)}"], keytab(OTHER, C)),
+         keytab(OTHER), [f"copied {line_of(C, OTHER)}"], keytab(OTHER, C)),
     copy("a quoted name", r"-p b@R --as c\/\@@R", TWO, None, [r"copied 2 kvno 3 etype 17 c\/\@@R"],
          keytab(replace(B, components=(b"c/@",)))),
     copy("no entry of the old name", "-p c@R --as b@R", TWO, None, NOT_FOUND),
@@ -112,14 +112,14 @@ CASES += [
     diff("", TWO, keytab(OTHER), f"- 2 {X}", f"! 53 2 {Y}"),
     diff("", keytab(OTHER), TWO, f"! 2 53 {Y}", f"+ 2 {X}"),
     diff("", keytab(C, HOST, OTHER, HOST), keytab(AES256, FIVE, B), "- 2 kvno 3 etype 17 c@R", f"- 47 {X}",
-         f"! 98 {len(keytab(AES256, FIVE))} {Y}", f"+ {told(AES256)}", f"+ {told(FIVE, AES256)}"),
+         f"! 98 {len(keytab(AES256, FIVE))} {Y}", f"+ {line_of(AES256)}", f"+ {line_of(FIVE, AES256)}"),
     diff("", keytab(OTHER, B), keytab(9, B), f"! 2 15 {Y}"), diff("", keytab(9, B), keytab(B, OTHER), f"! 15 2 {Y}"),
     *(diff(options, *images) for options, *images in (
         ("", TWO, TWO), ("", keytab(B, 9, HOST, B), keytab(HOST, replace(B, timestamp=9, name_type=3))),
         ("", keytab(B, OTHER), keytab(OTHER, B, OTHER)), ("", keytab(), keytab()), ("", old(HOST, B), TWO),
         ("--v1-big", TWO, old(B, HOST, order="big")))),
     diff("-p b@R -p c@R -e 17 -e 18", TWO, keytab(FIVE), f"- 53 {Y}"),
-    diff("-e 18", TWO, FOUR, f"+ {told(AES256, HOST)}"), diff("-e 23", TWO, FOUR, err="k: refused 9"),
+    diff("-e 18", TWO, FOUR, f"+ {line_of(AES256, HOST)}"), diff("-e 23", TWO, FOUR, err="k: refused 9"),
     # A comes first, with all that is wrong with it.
     diff("-p c@R", TWO, None, err="t: no such file"), diff("", None, b"xy", err="k: no such file"),
     *(diff("-e 23", *images, err=f"{file}: {what}") for image, what in UNSOUND.items()
@@ -143,5 +143,5 @@ def of_many() -> list[Case]:
         with_room("many names that are there", "ktcopy k t", k=names, t=names),
         with_room("many keys of one name that are there", "ktcopy k t", k=many, t=many),
         with_room("many keys of one name that clash", "ktcopy k t", status=1, k=many, t=one),
-        with_room("many keys of one name in place of which comes one", "ktcopy --replace k t", k=one, t=many),
+        with_room("many keys of one name that one replaces", "ktcopy --replace k t", k=one, t=many),
     ]

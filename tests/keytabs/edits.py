@@ -49,7 +49,7 @@ MOST = keytab(Entry((b"",) * 65_535))
 
 
 def refused(*replies: str) -> Outcome:
-    """Returns replies, one of which reports a refusal or a fault."""
+    """Returns replies that report a refusal or a fault, among others."""
     return printed(*replies, status=1)
 
 

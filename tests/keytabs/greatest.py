@@ -62,7 +62,7 @@ def reads() -> list[Case]:
 
 
 def most_of_one_name() -> Case:
-    """Returns a removal from the most entries, all but the newest of which are old. It takes more memory."""
+    """Returns a removal from the most entries, all old but the newest. It takes more memory."""
     newer = record(Entry((b"",), b"", 1, 0, 1, 0, b"", 1).spelled())
     return over("the most entries of one name", "ktremove -k old k", least()[:-SIZE] + newer,
                 Outcome(0, at_each(b"removed %d kvno 0 etype 0 @\n", PLACES[:-1])),
@@ -70,7 +70,7 @@ def most_of_one_name() -> Case:
 
 
 def many_long_names() -> Case:
-    """Returns a removal from many names with a long prefix, none of which is old. This too takes more memory."""
+    """Returns a removal from many names with a long prefix, none of them old. This too takes more memory."""
     return over("as many names with a long prefix", "ktremove -k old k", keytab(
         *(Entry((b"x" * 200, b"%05d" % number), version32=None) for number in range(60_000))), [])
 

@@ -8,7 +8,7 @@ from makers.images import BIG, END, HOST, LITTLE, B, Entry, cache, config, hole,
 from runs.harness import Case, Outcome, Report, message, over
 from runs.undisturbed import undisturbed
 
-# The enctypes that have names: the lengths of their keys, and the names, of which the first is printed.
+# The enctypes that have names: the lengths of their keys, and the names; the first is printed.
 ETYPES = {
     16: (24, "des3-cbc-sha1 des3 des3-hmac-sha1 des3-cbc-sha1-kd"),
     17: (16, "aes128-cts-hmac-sha1-96 aes128 aes128-cts aes128-sha1"),

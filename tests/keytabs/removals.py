@@ -1,5 +1,5 @@
-"""Removals by `ktremove`, look-ups by `ktfind`, and what copies have in common with them: entries, the lines that tell
-of them, and refusals."""
+"""Removals by `ktremove`, look-ups by `ktfind`, and what copies have in common with them: entries, the lines that
+report them, and refusals."""
 
 from keytabs import greatest
 from makers.images import HOST, Entry, keytab, name_text
@@ -18,7 +18,7 @@ FOUR = keytab(*THOSE)
 X = "removed 2 kvno 3 etype 17 host/a@R"
 
 
-def told(entry: Entry, *before: Entry) -> str:
+def line_of(entry: Entry, *before: Entry) -> str:
     """Returns the place of an entry after those, and the entry, as a line of output has them."""
     name = name_text((*entry.components, entry.realm)).decode()
     return f"{len(keytab(*before))} kvno {entry.version32} etype {entry.enctype} {name}"
@@ -30,10 +30,10 @@ def versioned(kvno: int, seconds: int) -> Entry:
 
 
 def remove(name: str, words: str, those: tuple[Entry, ...], *gone: int) -> Case:
-    """Returns a run with these words over a keytab of some entries, of which those of these numbers become holes."""
+    """Returns a run with these words over a keytab of some entries; those of these numbers become holes."""
     after = keytab(*(len(it.spelled()) if at in gone else it for at, it in enumerate(those)))
     return over(name, f"ktremove {words} k", keytab(*those),
-                [f"removed {told(those[at], *those[:at])}" for at in gone], after)
+                [f"removed {line_of(those[at], *those[:at])}" for at in gone], after)
 
 
 def look_up(words: str, wanted: Outcome, image: bytes = FOUR) -> Case:
@@ -43,7 +43,7 @@ def look_up(words: str, wanted: Outcome, image: bytes = FOUR) -> Case:
 
 SIGNED = B3, Entry((b"=b",))
 
-# Words that select, as they stand on a line. What each selects random removals show.
+# Words that select, as they are typed on a line. What each selects random removals show.
 CASES = [
     remove("all old ones", "-k old", THOSE, 0),
     remove("one by the name of its enctype", r"-k 5 -p b@R -e 17 -p \host/a@R -e aes256-cts-hmac-sha1-96", THOSE, 1, 2),
@@ -54,9 +54,9 @@ CASES = [
          keytab(41)),
     greatest.most_of_one_name, greatest.many_long_names,
     # The first of the highest version that is asked for, or code 10 if there are others of the name and the type.
-    look_up("0 0 host/a@R", printed(f"found {told(AES256, HOST)}")),
-    look_up("0 17 host/a@R", printed(f"found {told(FIVE, HOST, AES256)}")),
-    look_up("3 0 host/a@R", printed(f"found {told(HOST)}")), look_up("4 0 host/a@R", message(1, "k: refused 10")),
+    look_up("0 0 host/a@R", printed(f"found {line_of(AES256, HOST)}")),
+    look_up("0 17 host/a@R", printed(f"found {line_of(FIVE, HOST, AES256)}")),
+    look_up("3 0 host/a@R", printed(f"found {line_of(HOST)}")), look_up("4 0 host/a@R", message(1, "k: refused 10")),
     look_up("0 23 host/a@R", NOT_FOUND), look_up("0 17 host/a@S", NOT_FOUND),
     look_up("0 0 host/a@R", DAMAGED, FOUR + b"\0"),
 ]

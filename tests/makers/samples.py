@@ -11,7 +11,7 @@ from runs.harness import folder_of
 REALM = b"EXAMPLE.ORG"
 ALICE = Name((b"alice",), REALM)
 
-# A record with a length of 47, of which only 20 bytes are there.
+# A record with a length of 47, but only 20 bytes.
 CUT = (47).to_bytes(4, "big") + HOST.spelled()[:20]
 
 

@@ -24,7 +24,7 @@ def integer(number: int) -> bytes:
 
 
 def encrypted(etype: bytes, kvno: bytes | None = None, cipher: bytes = b"cipher") -> bytes:
-    """Returns the fields of an EncryptedData, of which the first are INTEGERs with these contents."""
+    """Returns the fields of an EncryptedData. The first are INTEGERs with these contents."""
     numbers = (element(0xA0 + at, element(2, it)) for at, it in enumerate((etype, kvno)) if it is not None)
     return b"".join((*numbers, element(0xA2, element(4, cipher))))
 

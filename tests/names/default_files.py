@@ -1,5 +1,5 @@
 """Lines that leave out the file: that which a variable names, or the default, beside another /etc, by what the system
-tells of a run, and for other users. What is wrong with a line comes first."""
+reports of a run, and for other users. What is wrong with a line comes first."""
 
 import os
 import shutil
@@ -24,7 +24,7 @@ KEYTAB = FileName("/etc/krb5.keytab", source=DEFAULT)
 USER = 4_000_123_456
 OWN = "/tmp/krb5cc_{}"
 
-# What the system tells of a process: the first number is that of the real user.
+# What the system reports of a process: the first number is that of the real user.
 OF_USER = "Name:\tUid:\nUmask:\t0022\nTgid:\t5\nUid:\t{}\t0\t7\t8\nGid:\t9\t9\t9\t9\n"
 
 # What no number can be had of: a text of no bytes, without the line, or without a number in it.
@@ -36,8 +36,8 @@ UNNAMED = {Kind.KEYTAB: ({}, {KTNAME: ""}, {CCNAME: "c"}), Kind.CACHE: ({}, {CCN
 
 def bad(words: str | Line, env: dict[str, str | bytes], phrase: str) -> Explained:
     """Returns a bad line, and what is wrong with it."""
-    told = ("bad command line", f"{phrase}; see krbfile {words_of(words)[0]} --help")
-    return unchanged(words, told, files={"k": TWO, "c": CACHE}, status=2, options={"env": env})
+    lines = ("bad command line", f"{phrase}; see krbfile {words_of(words)[0]} --help")
+    return unchanged(words, lines, files={"k": TWO, "c": CACHE}, status=2, options={"env": env})
 
 
 CASES = [
@@ -68,7 +68,7 @@ def own_cache(user: int, image: bytes | None) -> Iterator[None]:
 @contextmanager
 def other_system(report: Report, program: str, keytab: bytes | None, status: bytes = b"",
                  mounts: dict[str, str] | None = None) -> Iterator[Callable[[Explained], None]]:
-    """Yields what checks the end of a line beside a default keytab or none, another text that tells of the run, and
+    """Yields what checks the end of a line beside a default keytab or none, another text about the run, and
     other mounts."""
     with folder_of({"c": CACHE, "status": status}) as folder:
         os.mkdir(os.path.join(folder, "etc"))
@@ -117,8 +117,8 @@ def check_unknown(report: Report, program: str) -> None:
 
 
 def check_users(report: Report, program: str) -> None:
-    """Checks which cache is missing, as the system tells of users: of a real user beside root, of another user, and of
-    root for another user."""
+    """Checks which cache is missing, by what the system reports of users: of a real user beside root, of another user,
+    and of root for another user."""
     ways = {(): os.getuid()}
     if os.geteuid() == 0 and shutil.which("setpriv"):
         ways |= {("setpriv", f"--ruid={NOBODY}"): NOBODY, ("setpriv", f"--euid={NOBODY}"): 0,

@@ -63,7 +63,7 @@ OTHER = ("KCM:t: no such file", not_read("KCM:t"))
 ORDER = [
     *(unchanged(line, ("line 1: fault 1", unknown("frob")), stdin=b"frob\n") for line in (
         "ktedit KCM:k", "ccedit KCM:c")),
-    *(copy(options, source, None, told, to="KCM:t") for options, source, told in (
+    *(copy(options, source, None, lines, to="KCM:t") for options, source, lines in (
         ("", None, ("k: no such file", "")), ("", NEITHER, no_keytab(BEGINS_AS_NO_KEYTAB)),
         ("", TWO[:-1], ("k: refused 1", code(1))), ("-p c@R", TWO, FINDS_NONE), ("-n", TWO, OTHER),
         # Nothing would be saved, and it is asked for all the same.

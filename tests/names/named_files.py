@@ -52,7 +52,7 @@ OF_FILES = {"FILE:k": "k", "FILE:FILE:k": "FILE:k", "FILE:": "", "FILE:./k": "./
 OF_KEYTABS = {"WRFILE:k": "k", "WRFILE:FILE:k": "FILE:k", "WRFILE:WRFILE:k": "WRFILE:k"}
 OF_CACHES = {"DIR::k": "k", "DIR::FILE:k": "FILE:k", "DIR::DIR::k": "DIR::k", "DIR:::k": ":k", "DIR::": ""}
 OWN_TYPES = {Kind.KEYTAB: OF_KEYTABS, Kind.CACHE: OF_CACHES}
-# Words of other types, of which nothing is read.
+# Words of other types: nothing of them is read.
 OTHERS = ("KCM:", "KCM:k", "file:k", "KEYRING:persistent:0", "MEMORY:k", "DIR:k", "DIR:", "Dir::k", "File:k", "FILe:k",
           "FILEX:k", "XFILE:k", "ab:k", "KCM:FILE:k", "wrfile:k", "WRFile:k")
 ALL = (*OWN, *OF_FILES, *OF_KEYTABS, *OF_CACHES, *OTHERS)
@@ -125,14 +125,14 @@ class Command:
             ends[place] = 1, name.missing()
         elif own == "":
             ends[place] = 3, (": cannot write", CAUSES["ENOENT"])
-        status, *told = ends.get(place, (0,))
-        return status, () if "-s" in self.run.words else tuple(told)
+        status, *lines = ends.get(place, (0,))
+        return status, () if "-s" in self.run.words else tuple(lines)
 
     def row(self, name: FileName, place: bytes | None, word: str | None, files: dict[str, bytes],
             env: dict[str, str | bytes]) -> Explained:
         """Returns a run by a word, or by none, over what is under the name that is read, beside other files."""
         path, words = os.path.normpath(name.text), self.words(word)
-        status, told = self.ended(name, place)
+        status, lines = self.ended(name, place)
         files = {**self.beside, **files, **({} if place is None else {path: place})}
         out, after = b"" if "-l" not in words or "--json" in words else HEADING, files
         if status == 0:
@@ -141,11 +141,11 @@ class Command:
             out = usual.replace(NAME.encode(), spelled.encode())
             after = files | {path if each == NAME else each: data for each, data in left.items()}
         elif {"ktcheck", "--json"} <= {*words}:
-            out = unchecked(name.text, told[0][0], status)
+            out = unchecked(name.text, lines[0][0], status)
         elif words[0] == "hold":
             out = f"failed {status} {10 + NEITHERS[self.kinds][1] if place == NEITHER else 'ENOENT'}\n".encode()
         title = f"{shown(words)} with {env}, {'none' if place is None else place[:9]}"
-        return Explained(title, words, told, files, self.run.stdin, status, out, after, {"env": env}, for_owner)
+        return Explained(title, words, lines, files, self.run.stdin, status, out, after, {"env": env}, for_owner)
 
 
 # Runs over the file that they read, that they change, and that they make another of. Lines of ktutil name it otherwise.

@@ -57,8 +57,8 @@ def labelled(**those: list[str]) -> list[str]:
 def words(file: str, *findings: str) -> Output:
     """Returns the words of findings, and the hints for the file, whose weak entries have enctype 23."""
     hints = (hint.replace("ETYPE..", "arcfour-hmac") for finding, hint in HINTS.items() if finding in findings)
-    told = (*(f"{finding}: {FINDINGS[finding]}" for finding in findings), *hints)
-    return tuple(("", line.replace("FILE", file)) for line in told)
+    lines = (*(f"{finding}: {FINDINGS[finding]}" for finding in findings), *hints)
+    return tuple(("", line.replace("FILE", file)) for line in lines)
 
 
 def fault(name: str, place: int = 53) -> Output:
@@ -80,7 +80,7 @@ CASES = [
              *words("w", "weak"), *fault("d"), MISSING, *words("o", "old"), status=1),
     check_up("o all", labelled(o=OLD, all=ALL), *words("o", "old"),
              *words("all", "weak", "hidden", "same", "clash", "mode", "size"), status=1),
-    # Names of which there are no entries, each once, as they print, and a file without an entry.
+    # Names without entries, each once, as they print, and a file without an entry.
     check_up("--want c@R --want=b@R --want \\c@R --want @R n d k z", labelled(
         n=["empty", "missing c@R", "missing b@R", "missing @R", EMPTY],
         d=["missing c@R", "missing b@R", "missing @R", *BROKEN], k=["missing c@R", "missing @R", SOUND],
@@ -96,8 +96,8 @@ CASES = [
     # What is allowed has its lines, and only other findings count for the status.
     *(check_up(" ".join(["--older 1 --want c@R all", *(f"--allow {it}" for it in FINDINGS if it != counted)]), ASKED,
                *words("all", *IN_ALL), status=int(counted not in ("", "old"))) for counted in ("", *IN_ALL)),
-    # An output that takes nothing ends the run with the first file of which something would be printed.
-    *(check_up(line, [], *told, status=status, options=FULL) for line, told, status in (
+    # An output that takes nothing ends the run with the first file that would print something.
+    *(check_up(line, [], *lines, status=status, options=FULL) for line, lines, status in (
         ("no k x", [MISSING, FAILED], 3), ("--json k no", [FAILED], 3), ("--json -q k e o", [], 0),
         ("-q no k . o w x", [MISSING, UNREAD, FAILED], 3))),
 ]

@@ -1,5 +1,5 @@
-"""`klist` over several files: an empty line between listings, JSON a line each, what is told of others, and what ends
-the run."""
+"""`klist` over several files: an empty line between listings, JSON a line each, what is reported of others, and what
+ends the run."""
 
 from functools import partial
 
@@ -47,7 +47,7 @@ CASES = [
     partial(list_all, "-k l k", [K], ("l: file too large", LARGE), status=1, files={"k": TWO, "l": bytes(LIMIT + 1)}),
     # JSON has a line for each.
     list_all("-k --json n no n", [N_JSON + N_JSON], MISSING, status=1), list_all("--json e e", [E_JSON + E_JSON]),
-    # An output that takes nothing ends the run with the first file of which something would be printed.
+    # An output that takes nothing ends the run with the first file that would print something.
     list_all("-k no k x", [], MISSING, FAILED, status=3, options=FULL),
     list_all("--json no e no", [], MISSING, FAILED, status=3, options=FULL),
 ]

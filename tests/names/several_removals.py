@@ -21,14 +21,14 @@ FILES = {
     "c": cache(OVER, PA_TYPE, VALID_HOST, fields=OFFSET), "t": cache(TGT), "h": cache(VALID_HOST), "v": VERSION_3,
 }
 
-# Keytabs and caches once something is removed, and the lines that tell of it.
+# Keytabs and caches once something is removed, and the lines that report it.
 GONE = {"k": keytab(HOST, 41), "j": keytab(41), "a\nb": keytab(41), "o": keytab(47, FIVE), "h": cache(), "t": cache(),
         "c": cache(PA_TYPE, VALID_HOST, fields=OFFSET)}
 B_K, B_J = "k: removed 53 kvno 3 etype 17 b@R", "j: removed 2 kvno 3 etype 17 b@R"
 X_O = "o: removed 2 kvno 3 etype 17 host/a@R"
 TGT_C, HOST_C, HOST_H = "c: removed 34 krbtgt/R@R", "c: removed 278 host/a@R", "h: removed 22 host/a@R"
 
-# What is said where nothing is asked for, and of files of which nothing is asked.
+# What is said where nothing is asked for, and of files that cannot be asked.
 NO_ENTRY, NO_TICKET = (("refused 9", code(9, command)) for command in ("ktremove", "ccremove"))
 DAMAGED, OLD_CACHE = ("d: refused 1", code(1, "ktremove")), ("v: refused 8", code(8, "ccremove"))
 UNSAVED = ("k: cannot write", CAUSES["in the way"].replace("NAME", "k"))
@@ -74,10 +74,10 @@ CASES = [
             after=None),
     remove("ktremove -p b@R no k j", [], MISSING, status=1, options=FULL),
     # It is said last that nothing is asked for anywhere, unless no file could be asked.
-    *(remove(f"ktremove {options}", [], *told, NO_ENTRY, status=status) for options, told, status in (
+    *(remove(f"ktremove {options}", [], *lines, NO_ENTRY, status=status) for options, lines, status in (
         ("-n -p c@R k k", (), 1), ("-p c@R k d .", (DAMAGED, UNREAD), 3), ("-k old -p c@R k o", (), 1),
         ("-k old -p host/a@R j d", (DAMAGED,), 1))),
-    *(remove(f"ccremove {options}", [], *told, NO_TICKET, status=1) for options, told in (
+    *(remove(f"ccremove {options}", [], *lines, NO_TICKET, status=1) for options, lines in (
         ("-p c@R v c", (OLD_CACHE,)), ("--all-services --expired t v", (OLD_CACHE,)))),
     remove("ktremove -p c@R x d", [], NO_KEYTAB, DAMAGED, status=1),
     # That nothing is old, or has expired, is no failure.
@@ -86,7 +86,7 @@ CASES = [
     # A save that fails leaves the others as they are alone, and something was asked for.
     remove("ktremove -p b@R k j", [B_J], UNSAVED, status=3, left="j", setting=in_the_way),
     remove("ktremove -p host/a@R k j", [], UNSAVED, status=3, setting=in_the_way),
-    # An output that takes nothing ends the run with the first file of which something would be printed.
+    # An output that takes nothing ends the run with the first file that would print something.
     remove("ktremove -p b@R d k j", [], DAMAGED, FAILED, status=3, left="k", options=FULL),
     remove("ktremove -p c@R k d", [], DAMAGED, NO_ENTRY, status=1, options=FULL),
 ]

@@ -84,7 +84,7 @@ def show(line: str | Line, blocks: list[str], *output: tuple[str, str], status: 
 CASES = [
     show(("k", "FILE:c", "WRFILE:e", "DIR::k", "a\nb", "FILE:FILE:k", "--v1-big"),
          [K, C, E, K, rf"a\x0ab: {NONE}", f"FILE:k: {NONE}"]),
-    # A file of which there is only a message has no block.
+    # A file with only a message has no block.
     show("no x k z . d s DIR:c KCM:k e", [K, D, E], MISSING, no_keytab(SHOWN_AS_NEITHER, "x", "cache"),
          no_keytab(SHORT, "z", "cache"), UNREAD, ("", "d: fault 1 at 47"), ("", FAULTS[1]),
          no_keytab(BAD_DEFAULT, "s", "cache"), ("DIR:c: no such file", COLLECTION), TYPED, status=3),

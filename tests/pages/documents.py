@@ -1,4 +1,4 @@
-"""What the documents name exists: the files of their links, headings, files and tests, and what stands between
+"""What the documents name exists: the files of their links, headings, files and tests, and what is between
 backticks. Each piece of code on a page is in the sources. The map has each crate in its place."""
 
 import glob
@@ -94,7 +94,7 @@ def check(report: Report, program: str) -> None:
         report.check(f"the code of {path}", faults_of_code(path, read(path)))
     files, texts = paths("**/*"), ("crates.txt", "crates/*/src/**/*.rt", "crates/*/specs/**/*.antt")
     known = {*re.findall(r"\w+", " ".join(files) + sources(*texts))}
-    # The pages that speak of sources and tests. What is in capitals, or the start or end of a name, stands for others.
+    # The pages that speak of sources and tests. What is in capitals, or the start or end of a name, is a placeholder.
     for path in (MAP, "docs/TRUST.md", *(each for each in pages if each.endswith("CALLING.md"))):
         text = re.sub(r"```.*?```", "", read(path), flags=re.DOTALL)
         words = {word for name in re.findall(r"`([^`\n]+)`", text) for word in re.findall(r"\b[^\W_]\w*[^\W_]\b", name)}

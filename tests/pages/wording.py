@@ -67,5 +67,5 @@ def check(report: Report, program: str) -> None:
     if shutil.which("mandoc") is None:
         report.skip("the form of the manual pages", "mandoc is not there")
     else:
-        told = run("mandoc", ("-Tlint", "-Wwarning", *PAGES), TOP)
-        report.check("the form of the manual pages", told.out.decode().splitlines())
+        linted = run("mandoc", ("-Tlint", "-Wwarning", *PAGES), TOP)
+        report.check("the form of the manual pages", linted.out.decode().splitlines())

@@ -68,7 +68,7 @@ def differences_of(program: str, folder: str, *options: str) -> list[str]:
 
 
 def ticket_types(program: str, folder: str) -> list[tuple[str, str]]:
-    """Returns the enctype of each ticket of the cache `c` by its own bytes: as our klist tells it, and as MIT's."""
+    """Returns the enctype of each ticket of the cache `c` by its own bytes: as our klist prints it, and as MIT's."""
     listed = mit_klist(folder, "-e", "c").decode("latin-1").partition("\n\n")[2].partition("\n")[2]
     found = (TICKET_TYPE.search(details) for _, details in mit_listings.credentials(listed))
     ours = ("" if (etype := one["ticket_etype"]) is None else one["ticket_etype_name"] or f"etype {etype}"

@@ -178,7 +178,7 @@ def check_filled(report: Report, program: str, realm_of: Realm) -> None:
 
 
 def check_collection(report: Report, program: str, realm_of: Realm) -> None:
-    """Has kinit fill a collection with two caches, one of which is over then, and lists its caches."""
+    """Has kinit fill a collection with two caches, one of them over then, and lists its caches."""
     with folder_of({"k": keytab(*realm_of.keys())}) as folder:
         collection = {"KRB5CCNAME": f"DIR:{folder}/all"}
         for words in ((*KINIT, "-l", "1s", "svc/h"), USER):

@@ -1,5 +1,5 @@
 """Caches of other programs that ccedit and ccremove change: MIT's klist shows what it showed before without what a run
-tells that it removed, and then the values that it set. Where the file was saved, ours shows the same."""
+reports as removed, and then the values that it set. Where the file was saved, ours shows the same."""
 
 from collections.abc import Iterator
 from functools import cache
@@ -30,12 +30,12 @@ def edited(image: bytes, script: bytes, name: str) -> Undisturbed:
 
 
 def changes(image: bytes, said: dict) -> Iterator[tuple[Undisturbed, list[str]]]:
-    """Yields changes of a cache, each with what it sets: a removal at each place, values set, also anew in one that is
-    written anew, and a removal of each service's tickets."""
-    anew = edited(image, b"rewrite\n", "rewrite")
-    yield anew, []
+    """Yields changes of a cache, each with what it sets: a removal at each place, values set, also again in one that
+    is rewritten, and a removal of each service's tickets."""
+    rewritten = edited(image, b"rewrite\n", "rewrite")
+    yield rewritten, []
     yield edited(image, SETTING, "values"), SET
-    yield edited(anew.files_after["c"], SETTING * 2, "values anew"), SET
+    yield edited(rewritten.files_after["c"], SETTING * 2, "values again"), SET
     for one in (*said.get("tickets", ()), *said.get("config", ())):
         yield edited(image, b"start\nstep 0\ncut %d\nstep 0\n" % one["place"], f"cut {one['place']}"), []
     yield undisturbed("ccremove --expired c", name="--expired", clock=NOW, c=image), []

@@ -1,5 +1,5 @@
 """Cases over the files in `corpus`, which other programs wrote. `NAME.txt` beside a file is what MIT's klist prints.
-Theorems say that each is listed so; here are the listings of which MIT's klist says something else.
+Theorems say that each is listed so; here are the listings where MIT's klist says something else.
 
 The folder has `cases.jsonl`, one case a line: an object with `id`, `dir` (the folder in it with the case's files),
 `argv` (the program's arguments), `status`, `stdout`, `stderr`, and perhaps `stdin`, `copy` (a pair: a file of `dir`,

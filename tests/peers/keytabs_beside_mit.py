@@ -108,9 +108,9 @@ def check_same(report: Report, _: str) -> None:
 
 def faults_of_hidden(program: str, image: bytes, place: int | None, options: tuple[str, ...]) -> list[str]:
     """Returns the faults of a check of a keytab whose second entry of three, at that place, may be hidden: MIT's klist
-    lists those before, and all once it is removed. A script that adds one is told where MIT's would not list it."""
+    lists those before, and all once it is removed. A script that adds one has a message if MIT's would not list it."""
     edited = undisturbed((EXPLAIN, "ktedit", *options, "k"), ADD_C.encode(), k=image).wanted.err
-    told = [int(at) for at in re.findall(rb"MIT's programs see no entry from (\d+) on\n", edited)]
+    warned = [int(at) for at in re.findall(rb"MIT's programs see no entry from (\d+) on\n", edited)]
     with folder_of({"k": image}) as folder:
         mit = Mit(folder)
         name = as_json(program, folder, "-k", *options, "k")["entries"][1]["principal"]
@@ -119,7 +119,7 @@ def faults_of_hidden(program: str, image: bytes, place: int | None, options: tup
         count = len(mit.klist("k"))
         status = run(program, ("ktremove", *options, "-p", name, "k"), folder).status
         left = len(mit.klist("k"))
-    found = [] if reported == told == ([place] if place else []) else [f"{reported} and {told} are told as hidden"]
+    found = [] if reported == warned == ([place] if place else []) else [f"{reported} and {warned} are hidden"]
     found += [] if count == (1 if place else 3) else [f"MIT's klist lists {count}"]
     return found + ([] if (status, left) == (0, 2) else [f"status {status}, then it lists {left}"])
 
@@ -174,7 +174,7 @@ def rotated_entry(random: Random) -> Entry:
 
 
 def faults_of_removal(program: str, realm: Realm, random: Random) -> list[str]:
-    """Returns what differs from kadmin.local's in a removal of a name's old entries from a random keytab, which tells
+    """Returns what differs from kadmin.local's in a removal of a name's old entries from a random keytab, which reports
     each entry that goes."""
     those = [rotated_entry(random) for _ in range(random.randrange(1, 9))]
     image, name = keytab(*those), b"/".join(random.choice(those).components) + b"@R"

@@ -29,7 +29,7 @@ ROWS = (
 
 def ended_beside(program: str, options: tuple[str, ...], folder: str, mits: tuple[str, Undisturbed, Halt],
                  seconds: float) -> tuple[Outcome, bool, Outcome]:
-    """Returns how a run ends that begins while one of MIT's programs is halted, whether it waits for so many seconds,
+    """Returns how a run ends that begins while one of MIT's programs is halted, whether it waits for that many seconds,
     and how MIT's program ends."""
     started: list[tuple[Future[Outcome], bool]] = []
     with ThreadPoolExecutor(1) as pool:

@@ -1,4 +1,4 @@
-"""The enctype and the kvno that JSON tells of a ticket by its own bytes. Expected values are written by hand, by X.690,
+"""The enctype and the kvno that JSON has of a ticket by its own bytes. Expected values are written by hand, by X.690,
 and MIT's klist shows the enctype too."""
 
 from collections.abc import Callable
@@ -10,14 +10,14 @@ from peers.beside_mit import are_there, as_json, differing_types, ticket_types
 from peers.corpus import files
 from runs.harness import Report, folder_of
 
-# What is told of a ticket: its enctype, the name of that, and its kvno.
-Told = tuple[int | None, str | None, int | None]
+# What JSON has of a ticket: its enctype, the name of that, and its kvno.
+Encryption = tuple[int | None, str | None, int | None]
 NAME = "aes256-cts-hmac-sha1-96"
-USUAL: Told = (18, NAME, 2)
-NOTHING: Told = (None, None, None)
+USUAL: Encryption = (18, NAME, 2)
+NOTHING: Encryption = (None, None, None)
 
-# The contents of the two INTEGERs, and what is told.
-NUMBERS: dict[tuple[str, str | None], Told] = {
+# The contents of the two INTEGERs, and what JSON has then.
+NUMBERS: dict[tuple[str, str | None], Encryption] = {
     ("12", "02"): USUAL, ("12", None): (18, NAME, None), ("00", "00"): (0, None, 0), ("7f", "7f"): (127, None, 127),
     ("0080", "0080"): (128, None, 128), ("fb", "ff"): (-5, None, 2**32 - 1), ("ff7f", "80"): (-129, None, 2**32 - 128),
     ("010012", "010000"): (65_554, None, 65_536), ("7fffffff", "7fffffff"): (2**31 - 1, None, 2**31 - 1),
@@ -41,9 +41,9 @@ ODD: dict[str, Callable[[int, bytes], bytes]] = {
     "another tag": lambda tag, content: element(tag ^ 1, content),
 }
 
-ROWS: dict[str, tuple[bytes, Told]] = {
-    **{f"INTEGERs {numbers}": (ticket(encrypted(*(it if it is None else bytes.fromhex(it) for it in numbers))), told)
-       for numbers, told in NUMBERS.items()},
+ROWS: dict[str, tuple[bytes, Encryption]] = {
+    **{f"INTEGERs {numbers}": (ticket(encrypted(*(it if it is None else bytes.fromhex(it) for it in numbers))), shown)
+       for numbers, shown in NUMBERS.items()},
     **{f"{name}, element {at} of {len(data)}": (ticket(data, at=at, odd=odd), NOTHING)
        for name, odd in ODD.items() for data in (DATA, LONG) for at in range(4)},
     "a long one": (ticket(LONG), USUAL),
@@ -57,8 +57,8 @@ ROWS: dict[str, tuple[bytes, Told]] = {
 
 
 def check(report: Report, program: str) -> None:
-    """Compares what is told of each ticket, and the enctypes with those that MIT's klist shows of them and of the files
-    in `corpus`, but for the one of version 2."""
+    """Compares what JSON has of each ticket, and the enctypes with those that MIT's klist shows of them and of the
+    files in `corpus`, but for the one of version 2."""
     is_mit = are_there(report, "enctypes of tickets beside MIT's klist", "klist")
     with folder_of({"c": cache(*(replace(TICKET, ticket=data) for data, _ in ROWS.values()))}) as folder:
         for (name, (_, wanted)), one in zip(ROWS.items(), as_json(program, folder, "c")["tickets"], strict=True):

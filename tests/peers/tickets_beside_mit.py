@@ -76,7 +76,7 @@ def filled(what: str, report: Report, program: str, made: Realm, *commands: tupl
 
 def check_removed(*where: Report | str | Realm) -> None:
     """Checks that a ticket that ccremove removed is requested again, and that a new ticket of kinit is used."""
-    with filled("kvno asks anew for what is removed", *where, USER, ("kvno", HOST, "svc/h")) as one:
+    with filled("kvno asks again for what is removed", *where, USER, ("kvno", HOST, "svc/h")) as one:
         old, = one.keys_of(HOST_TEXT)
         kept = [one.keys_of(server) for server in (TGT, SVC_TEXT)]
         one.remove(HOST_TEXT)
@@ -96,7 +96,7 @@ def check_removed(*where: Report | str | Realm) -> None:
 
 def check_version_3(*where: Report | str | Realm) -> None:
     """Checks that a cache of version 3 is refused, and that kvno uses it as version 4 after a rewrite."""
-    with filled("a cache of version 3 that is written anew", *where, USER, ("kvno", HOST), version=3) as one:
+    with filled("a cache of version 3 that is rewritten", *where, USER, ("kvno", HOST), version=3) as one:
         before, keys = one.image(), one.keys_of(HOST_TEXT)
         one.change("ccremove --expired", message(1, "c: refused 8"))
         one.want("it changed", one.image() == before)

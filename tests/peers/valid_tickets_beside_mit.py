@@ -16,12 +16,12 @@ from runs.undisturbed import undisturbed
 # The end of the usual ticket, and another.
 END, LATER = TICKET.endtime, TICKET.endtime + 1_000
 
-# The servers of the random caches, two of which are a ticket-granting ticket of some realm.
+# The servers of the random caches. Two are a ticket-granting ticket of some realm.
 SERVERS = (Name((b"krbtgt", b"R")), Name((b"krbtgt", b"S")), Name((b"krbtgt", b"R"), b"S"), Name((b"host", b"a")),
            Name((CONFIG_FIRST, b"k"), CONFIG_REALM), Name((CONFIG_FIRST, b"k", b"p"), CONFIG_REALM))
 
 
-# Caches of which MIT's klist thinks otherwise until their end: whether it finds a ticket to go on with, and ours does.
+# Caches where MIT's klist differs until their end: whether it finds a ticket to go on with, and ours does.
 # It reads version 2, refuses an offset that has not eight bytes, takes any number of components after the
 # first for those of a configuration entry, and a length that is greater than the file for damage of all of it.
 DIFFERENT: dict[str, tuple[bytes, bool, bool]] = {

@@ -91,7 +91,7 @@ def libraries(crate: str) -> list[str]:
 
 
 def sources(crate: str) -> list[str]:
-    """Returns the options that name those libraries as sources, of which nothing need be proved."""
+    """Returns the options that name those libraries as sources. Nothing of them need be proved."""
     own = crates()[crate][1]
     words, of_kit = ["-L", f"dependency={os.path.join(kit(), 'rlibs')}"], {"std", *own} - set(crates())
     for it in sorted(below(crate)):

@@ -66,11 +66,11 @@ COMMANDS = {
         ("ktedit PATH", f"add 1 17 1700000000 {KEY} NAME@R\n")),
     "ktremove": Command(
         (undisturbed("ktremove -p b@R k", k=TWO, name="removes"),), (),
-        (undisturbed("ktremove -n -k 3 k", k=TWO, name="tells"),),
+        (undisturbed("ktremove -n -k 3 k", k=TWO, name="prints"),),
         (undisturbed("ktremove -p c@R k", k=TWO, name="finds none"),), ("ktremove -p NAME@R PATH", "")),
     "ktcopy": Command(
         copies(("", TWO, NEW, "adds")), (undisturbed("ktcopy k t", k=TWO, name="adds"),),
-        copies(("-n", TWO, OLD, "tells"), ("-n", TWO, CLASH, "tells of a clash"),
+        copies(("-n", TWO, OLD, "prints"), ("-n", TWO, CLASH, "prints a clash"),
                ("", TWO[:-1], NEW, "has a damaged source"), ("", b"", NEW, "has no keytab as source"),
                ("-p c@R", TWO, NEW, "finds none"), ("-k old", TWO, NEW, "is at fault")),
         (*copies(("", TWO, TWO, "has all already"), ("", TWO, CLASH, "clashes"), ("", NEW, TWO, "has it already"),
@@ -91,7 +91,7 @@ COMMANDS = {
     "ccremove": Command(
         (undisturbed("ccremove -p krbtgt/R@R c", c=USUAL, name="removes"),), (),
         tuple(undisturbed(f"ccremove -n {options} c", c=USUAL, name=what)
-              for options, what in (("--expired", "tells"), ("-p b@R", "tells of none"))),
+              for options, what in (("--expired", "prints"), ("-p b@R", "prints none"))),
         (undisturbed("ccremove -p b@R c", c=USUAL, name="finds none"),), ("ccremove -p NAME@R PATH", "")),
     "hold": Command(
         (undisturbed("hold -k k", frame(keytab(60, HOST)), k=TWO, name="saves"),

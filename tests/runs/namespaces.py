@@ -11,7 +11,7 @@ from runs.harness import SECONDS, Outcome, folder_of, run
 # Makes the mounts, and starts the words after it.
 UNSHARE = ("unshare", "--mount") if os.geteuid() == 0 else ("unshare", "--mount", "--user", "--map-root-user")
 
-# What the system tells of the run, once it takes the place of its shell.
+# What the system reports of the run, once it takes the place of its shell.
 STATUS = "/proc/$$/status"
 
 

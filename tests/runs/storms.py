@@ -13,7 +13,7 @@ from words.phrases import AFTERMATHS
 # A run that is refused has waited for another for this many seconds, or failed for another reason.
 LEAST_WAIT = 9
 
-# What a run tells that saved, and lost the change of another program; its status is 1.
+# What a run reports that saved, and lost the change of another program; its status is 1.
 LOST = AFTERMATHS["lost change"].encode()
 
 # A run that reads no input starts when its shell has read a line.

@@ -100,7 +100,7 @@ KINDS = (*(Kind(names, kills=kills) for names in (*OF_KEYTABS, *OF_CACHES, MIXED
 # The kinds in which other programs add entries by `hold`: these are the runs that are killed.
 HOLDS = (Kind(("ktedit", "hold", "ktremove", "hold")), Kind(("ktedit", "hold"), kills=True))
 
-# The kinds of which some runs save in place.
+# The kinds with some runs that save in place.
 PLACES = (*(Kind(names, in_place=True) for names in (("ktedit",), ("ktutil",), MIXED, BOTH)),
           *(Kind(names, in_place=True, kills=True) for names in (("ktedit",), BOTH)))
 

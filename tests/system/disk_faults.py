@@ -28,7 +28,7 @@ def named(errors: str) -> dict[str, str]:
 NO_MEMORY = {"ENOMEM": "error 12"}
 
 # Calls, of a path or of any, what the first one fails with, and the phrase of it. With what a save goes on without an
-# owner or a lock stands below.
+# owner or a lock is below.
 FAILED = {
     (OPEN, "k.krbfile"): named("EACCES ENOENT ENOTDIR EISDIR EROFS ENAMETOOLONG") | {"EPERM": CAUSES["EACCES"]},
     (LOOK, "k"): named("EACCES ENOTDIR ELOOP") | NO_MEMORY, ("flock", ""): named("ENOLCK"),
@@ -56,7 +56,7 @@ def check_synced(report: Report, program: str) -> None:
     report.check("a file in another folder", faults)
 
 
-# A run of which calls fail, the options of strace by which they do, what is made before, and how the file is left.
+# A run whose calls fail, the options of strace by which they do, what is made before, and how the file is left.
 Row = tuple[Case, tuple[str, ...], tuple[Place, ...], Owned | None]
 
 

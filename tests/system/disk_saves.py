@@ -199,7 +199,7 @@ ROWS: list[tuple[Case, *tuple[Place, ...]]] = [
     *((copy(f"{what} of the same keytab", COPY, {"k": TWO}, Outcome(0)), place) for what, place in (
         ("a link", link("t", "k")),
         ("a second name", lambda folder: os.link(os.path.join(folder, "k"), os.path.join(folder, "t"))))),
-    # What stands under the name of the new file: only a save is refused.
+    # What is under the name of the new file: only a save is refused.
     *((copy(f"a folder in the way: {' '.join(words)}, {wanted.status}", words, {"k": TWO, "t": target}, wanted),
        at("t.krbfile", os.mkdir)) for words, target, wanted in (
            (COPY, keytab(HOST), message(3, "t: cannot write")), (COPY, TWO, Outcome(0)),

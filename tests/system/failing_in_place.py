@@ -1,4 +1,4 @@
-"""Saves in place of which a system call fails, or that are killed at one.
+"""Saves in place with a system call that fails, or at which they are killed.
 
 Bytes past the old end are written and synced first. If a write, a cut or a sync fails, the old bytes are written back,
 and if that fails too, a message says so.
@@ -57,11 +57,11 @@ def both_fail(call: Call, back: Call) -> tuple[str, ...]:
 
 
 def check_lost(report: Report, program: str, case: Undisturbed, call: Call, back: Call, left: str) -> None:
-    """Lets a call fail, and then one that brings the old bytes back: what that leaves is told, if an old byte may be
-    lost without words too."""
+    """Lets a call fail, and then one that brings the old bytes back: what that leaves is reported, without words too if
+    an old byte may be lost."""
     damage = [message_of(case, "damaged")] if left == "damaged" else []
-    told = [AFTERMATHS["restored"]] if left == "restored" else damage
-    for one, words in ((case, damage), (with_words(case), [CAUSES["EIO"], *told])):
+    phrases = [AFTERMATHS["restored"]] if left == "restored" else damage
+    for one, words in ((case, damage), (with_words(case), [CAUSES["EIO"], *phrases])):
         got, files, _ = run_failing(program, one, *both_fail(call, back))
         faults = differences(explained(unsaved(case), *words), got)
         faults += [] if files.keys() == case.files.keys() else [f"{[*files]} are there"]
@@ -92,7 +92,7 @@ def check_failures(report: Report, program: str) -> None:
 
 
 def check_talk(report: Report, program: str) -> None:
-    """Checks lines of ktutil of which one fails to write into a hole: what it left is told once, and the next saves."""
+    """Checks lines of ktutil. One fails to write into a hole: what it left is reported once, and the next saves."""
     files = {"j": keytab(B), "k": keytab(60, HOST)}
     talk = b"rkt j\nwkt k\nwkt k.krbfile\nwkt no\nwkt k\n"
     lines = ("k: cannot write", f"line 2: {CAUSES['EIO']}", f"line 2: {AFTERMATHS['restored']}",

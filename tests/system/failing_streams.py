@@ -15,7 +15,7 @@ from runs.harness import Report, differences, message
 from runs.system_calls import Preloaded, preloaded
 from runs.undisturbed import IN_PLACE
 from system.early_ends import End, Ends
-from system.saving import told
+from system.saving import reported
 
 ERRORS = (EINTR, EAGAIN, ENOSPC, ENOMEM, EACCES)
 
@@ -55,7 +55,7 @@ def are_met(ends: Ends, setting: str, given: int, end: End) -> bool:
         return end in ends.of_input(given)
     if setting == "FAIL_READ":
         # A file that is to be saved is read again before, and after it too: if it was replaced nothing is said of that.
-        seen = (told(ends.run, "mixed"), ends.run.files_after) if is_placed else ends.whole
+        seen = (reported(ends.run, "mixed"), ends.run.files_after) if is_placed else ends.whole
         return end in [*ends.of_loads, *ends.of_saves, *[seen] * is_saved]
     return end in ends.of_saves if setting in ("FAIL_SAVE", "ZERO_SAVE") else ends_in_output(ends, end)
 

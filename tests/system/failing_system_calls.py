@@ -17,7 +17,7 @@ from runs.undisturbed import IN_PLACE, Undisturbed, in_place, undisturbed
 from runs.undisturbed import explained as with_words
 from system.early_ends import End, Ends
 from system.failing_streams import NO_OUTPUT, ends_in_output
-from system.saving import ADD, UNREAD, UNSAVED, explained, images, run_over, told, tree, tree_faults, write
+from system.saving import ADD, UNREAD, UNSAVED, explained, images, run_over, reported, tree, tree_faults, write
 from words.phrases import CAUSES
 
 ERRORS = ("EIO", "ENOSPC", "EACCES", "EPERM", "EINTR", "ENOMEM")
@@ -115,7 +115,7 @@ def check_failure(report: Report, program: str, ends: Ends, call: Call, error: s
 
 def check_runs(report: Report, program: str) -> None:
     """Lets each call of each run fail, and kills the run at each."""
-    # Those that list as JSON, tell nothing or are at fault, or only walk, have the calls of others.
+    # Those that list as JSON, print nothing or are at fault, or only walk, have the calls of others.
     reads = {(run.words[0], file_of(run)): run for run in READS
              if not {"--json", "-s"} & {*run.words} and not run.stdin and not run.wanted.err}
     changes = {run.words[0]: run for run in CHANGES} | {"ktutil": TALK}
@@ -143,7 +143,7 @@ def faults_at_link(program: str, run: Undisturbed, call: Call, error: str) -> li
     phrase = CAUSES["owner" if call.name == "fchown" else error]
     failed = {UNREAD: old, UNSAVED: old, NO_OUTPUT: new}
     ends = {run.wanted: new, **{explained(outcome, phrase): image for outcome, image in failed.items()}}
-    image = (ends | ({told(run, "mixed"): new} if is_placed else {})).get(got)
+    image = (ends | ({reported(run, "mixed"): new} if is_placed else {})).get(got)
     stale = [{}] * (not is_placed) + [{"file.krbfile": REMAINS}] * (is_placed or image == old)
     return [] if left in [{"k": "file", "file": image, **more} for more in stale] else [f"{got} and {left}"]
 

@@ -15,7 +15,7 @@ from runs.harness import Case, Report, differences, every, faults_of, files_in, 
 from runs.namespaces import disk, no_disks
 from runs.system_calls import Halt, halted, traced, under_strace
 from runs.undisturbed import IN_PLACE, Undisturbed, in_place, undisturbed
-from system.saving import (ADD, B_OLD, EQUAL, LONGER, PLACED, SAVED, check_over, edit, refused, run_over, stands,
+from system.saving import (ADD, B_OLD, EQUAL, LONGER, PLACED, SAVED, check_over, edit, refused, run_over, state_of,
                            tree_faults, with_words, write)
 
 # A run that gives up takes this many seconds, however busy the machine is.
@@ -30,7 +30,7 @@ RUNS = 8
 # Runs that change a file, that have nothing to save, and that take no lock, in both ways if there are two.
 BOTH_WAYS, LEAVING, LOCKING_NOTHING = (both_ways(*runs) for runs in (CHANGES, LEAVES, READS))
 
-# Kinds of locks: of a whole file, and record locks, for some of which each run waits that saves.
+# Kinds of locks: of a whole file, and record locks. Each run that saves waits for some of these.
 FLOCK, TO_READ, TO_WRITE = "a flock", "a lock to read", "a lock to write"
 OPEN_READ, OPEN_WRITE, PART = "a lock of an open file to read", "a lock of an open file", "a lock of a part"
 LOCKS: dict[str, Callable[[object], None]] = {
@@ -50,10 +50,10 @@ def ofd_lock(file, kind: int) -> None:
 
 
 def set_back(folder: str) -> dict[str, tuple[object, ...]]:
-    """Sets the times of a folder and of its files back, and returns how these stand."""
+    """Sets the times of a folder and of its files back, and returns their state."""
     for path in (folder, *(each.path for each in os.scandir(folder))):
         os.utime(path, (1, 1))
-    return stands(folder)
+    return state_of(folder)
 
 
 def faults_of_waiting(program: str, folder: str, end: Callable[[], None], case: Run = ADD) -> list[str]:
@@ -79,7 +79,7 @@ def waited_for(program: str, case: Run, lock: str, name: str) -> list[str]:
         before = set_back(folder)
         LOCKS[lock](file)
         faults = faults_of_waiting(program, folder, file.close, case)
-        is_written = case.files_after == case.files and stands(folder) != before
+        is_written = case.files_after == case.files and state_of(folder) != before
         return faults + (["a file was written"] if is_written else [])
 
 
@@ -102,7 +102,7 @@ def ended_beside(program: str, case: Run, lock: str, file: str) -> tuple[list[st
         begun = time.monotonic()
         got = run(program, case.words, folder, case.stdin)
         seconds, faults = time.monotonic() - begun, faults_of(case, got, files_in(folder))
-        is_changed = case in LOCKING_NOTHING and (os.stat(folder).st_mtime != 1 or stands(folder) != before)
+        is_changed = case in LOCKING_NOTHING and (os.stat(folder).st_mtime != 1 or state_of(folder) != before)
         return faults + (["the folder, or a file, was changed"] if is_changed else []), seconds
 
 
@@ -159,7 +159,7 @@ def check_without(report: Report, program: str) -> None:
 
 
 def check_other_handle(report: Report, program: str) -> None:
-    """Checks a file of which only a handle that writes can be locked: then that one is."""
+    """Checks a file that can be locked only by a handle that writes: then that one is."""
     for case, nth in ((LONGER, 2), (in_place(LONGER), 1)):
         with folder_of(case.files) as folder:
             outcome, trace = traced(program, case, folder, "-e", f"inject=flock:error=EBADF:when={nth}")

@@ -79,7 +79,7 @@ def check_kept(report: Report, program: str, case: Undisturbed, attributes: dict
 
 
 def check_set_id(report: Report, program: str) -> None:
-    """Checks that a file of which the system clears setuid while its new end is added is saved all the same."""
+    """Checks that a file that loses setuid while its new end is added is saved all the same."""
     options, case = as_another(program), in_place(LONGER)
     if options is None:
         report.skip("files with setuid", "none but root may start the program")
@@ -168,8 +168,8 @@ def missing(run: Undisturbed, name: str = "") -> Explained:
 
 def unwritten(name: str, phrase: str, lines: bytes = LINES, **more) -> Explained:
     """Returns a run of ktutil that after those lines is to write that file, and does not."""
-    told = (f"{name}: cannot write", f"line {len(lines.splitlines()) + 1}: {phrase}")
-    return unchanged("ktutil --in-place", told, status=3, stdin=lines + f"wkt {name}\n".encode(), **more)
+    messages = (f"{name}: cannot write", f"line {len(lines.splitlines()) + 1}: {phrase}")
+    return unchanged("ktutil --in-place", messages, status=3, stdin=lines + f"wkt {name}\n".encode(), **more)
 
 
 CASES = [

@@ -16,12 +16,12 @@ from runs.terminal import run_on_terminal
 from runs.undisturbed import IN_PLACE, frame
 from system.failing_streams import NO_OUTPUT
 from system.file_locks import is_locked
-from system.saving import HOLD_SAVED, as_another, check_over, explained, last_line, stands, tree_faults
+from system.saving import HOLD_SAVED, as_another, check_over, explained, last_line, state_of, tree_faults
 from words.explaining import CUT_CACHE, Explained, case, failed, in_the_way, link, no_keytab, unchanged
 from words.phrases import (BAD_DEFAULT, BAD_HEADER, BEGINS_AS_CACHE, BEGINS_AS_NO_CACHE, BEGINS_AS_NO_KEYTAB, CAUSES,
                            ERRORS, GIVEN_DAMAGED, HELD_AS_KEYTAB, LARGE, NOT_WHOLE, SHORT, TO_A_PROGRAM, code)
 
-# A keytab of which MIT's programs see no entry.
+# A keytab whose entries MIT's programs do not see.
 UNSEEN = keytab(Entry((b"h",), timestamp=0, enctype=1, key=b""), B)
 
 # Lines that hold a keytab, in place too, and a cache; a keytab without an entry, and its frame.
@@ -105,7 +105,7 @@ CASES = [
     lambda: refused(K, ("k: file too large", LARGE), files={"k": sized(LIMIT + 1)}),
     refused(C, ("k: refused 1", code(1, "hold")), files={"k": CUT_CACHE}),
     *(refused(line, ("k: no such file", "")) for line in (C, f"hold {IN_PLACE} k", PLACED)),
-    # It could not be saved: what is in the way is beside the file that a link leads to. What a load tells comes first.
+    # It could not be saved: what is in the way is beside the file that a link leads to. What a load says comes first.
     case("hold of a link", "hold -k l", TWO, ("l: cannot write", CAUSES["in the way"].replace("NAME", "k")), status=3,
          out=last_line(ERRORS["in the way"]), stdin=EMPTY,
          setting=lambda folder: (in_the_way(folder), link("k")(folder))),
@@ -122,10 +122,10 @@ def check_left(report: Report, program: str) -> None:
         for data, status, last in ((b"", 0, b"left"), (frame(TWO), 0, b"left"), (b"3\n\5\2", 1, b"failed 1 EBADMSG"),
                                    (EMPTY, 0, b"saved")):
             with folder_of(files) as folder:
-                before = stands(folder)
+                before = state_of(folder)
                 got = run(program, line.split(), folder, data)
                 faults = [] if (got.status, got.out) == (status, frame(TWO) + last + b"\n") else [f"{got}"]
-                faults += [] if data == EMPTY or stands(folder)["k"] == before["k"] else ["the file was written"]
+                faults += [] if data == EMPTY or state_of(folder)["k"] == before["k"] else ["the file was written"]
                 left = {name: files[name] for name in files if name != "k" and line == PLACED}
                 faults += tree_faults({"k": NONE if data == EMPTY else TWO, **left}, folder)
             report.check(f"{[*files]}: {line}, {data[:4]}", faults)

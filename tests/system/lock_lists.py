@@ -26,7 +26,7 @@ def lock(file: str, kind: str = "POSIX  ADVISORY  WRITE 12") -> bytes:
 LOCK, NO_LOCK = lock("00:00:0"), lock("00:00:0", "POSIX  ADVISORY  READ 12")
 FLOCK = lock("00:00:0", "FLOCK  ADVISORY  WRITE 9")
 
-# The description of an open file, on mount 25, and a list of mounts, one of which has a name that is not UTF-8.
+# The description of an open file, on mount 25, and a list of mounts, one with a name that is not UTF-8.
 OPEN_FILE = b"pos:\t0\nflags:\t0100001\nmnt_id:\t25\nino:\t131\n"
 MOUNTS = (b"24 1 0:37 / / rw,relatime - overlay overlay rw\n26 24 0:31 / /\xff rw - tmpfs t1 rw\n"
           b"25 24 0:38 / /tmp rw shared:2 - tmpfs t2 rw\n")

@@ -1,6 +1,6 @@
 """A file that another program changes, by a handle that it has, after the comparison of a save.
 
-If it is replaced, the change is lost. In place it is kept, unless the same bytes were written. Either is told, with
+If it is replaced, the change is lost. In place it is kept, unless the same bytes were written. Either is reported, with
 words or without; the output is as ever. One before the comparison, which is behind the locks, is kept too.
 """
 
@@ -17,11 +17,11 @@ from runs.harness import EXPLAIN, Case, Report, differences, every, folder_of, s
 from runs.system_calls import Halt, halted
 from runs.undisturbed import Undisturbed, in_place, undisturbed
 from system.lock_lists import READINGS
-from system.saving import (ADD, CUT_OFF, EQUAL, LONGER, MIXED, SHORTER, explained, images, message_of, told,
+from system.saving import (ADD, CUT_OFF, EQUAL, LONGER, MIXED, SHORTER, explained, images, message_of, reported,
                            tree_faults, unsaved, with_words)
 from words.phrases import AFTERMATHS, CAUSES
 
-# A run of each command, and lines of ktutil of which the last ones are at fault and refused.
+# A run of each command, and lines of ktutil, the last ones at fault and refused.
 TALK = undisturbed("ktutil", b"rkt j\nwkt k\nfrob\nwkt FILE:k\n", j=keytab(B), k=keytab(HOST),
                    name="adds, is at fault, and is refused")
 CASES_OF_ALL = (*CHANGES_OF_ALL, TALK)
@@ -51,8 +51,8 @@ ADD_MORE, _ = CHANGES["bytes at the end"]
 
 
 def both_ways(case: Undisturbed, aftermath: str) -> list[Case]:
-    """Returns a run that tells what its save left, without words and with them."""
-    return [replace(one.as_case(), wanted=told(one, aftermath)) for one in (case, with_words(case))]
+    """Returns a run that reports what its save left, without words and with them."""
+    return [replace(one.as_case(), wanted=reported(one, aftermath)) for one in (case, with_words(case))]
 
 
 def with_more(case: Case) -> Case:
@@ -66,8 +66,8 @@ Row = tuple[Case, Halt, Change]
 
 
 def of_each() -> Iterator[Row]:
-    """Yields runs of each command: one that replaces its file tells of a change that it loses, and one that saves it in
-    place tells of it and leaves it there."""
+    """Yields runs of each command: one that replaces its file reports a change that it loses, and one that saves it in
+    place reports it and leaves it there."""
     for case in CASES_OF_ALL:
         before, after = images(case)
         # The load reads the bytes and the end, and so does the comparison.
@@ -78,13 +78,13 @@ def of_each() -> Iterator[Row]:
 
 
 def of_kinds() -> Iterator[Row]:
-    """Yields each kind of change, in place if the length stays: where the bytes are the same, nothing is told."""
+    """Yields each kind of change, in place if the length stays: where the bytes are the same, nothing is reported."""
     lost, placed = ADD.as_case(), in_place(EQUAL).as_case()
     _, after = images(placed)
     left = {"bytes at the end": after + MORE, "the last byte": after[:-1] + b"\xff", "no byte any more": b""}
-    for name, (change, is_told) in CHANGES.items():
-        yield replace(lost, wanted=told(lost, "lost change")) if is_told else lost, RENAMED, change
-        yield replace(placed, wanted=told(placed, "mixed") if is_told else placed.wanted,
+    for name, (change, is_reported) in CHANGES.items():
+        yield replace(lost, wanted=reported(lost, "lost change")) if is_reported else lost, RENAMED, change
+        yield replace(placed, wanted=reported(placed, "mixed") if is_reported else placed.wanted,
                       files_after={"k": left.get(name, after)}), SYNCED, change
 
 
@@ -115,7 +115,7 @@ def of_later() -> Iterator[Row]:
     """Yields changes behind the second write, and behind the cut."""
     for case, halt in ((MIXED, Halt("fsync", 2)), (SHORTER, CUT), (SHORTER, SYNCED), (CUT_OFF, CUT)):
         placed = in_place(case).as_case()
-        yield replace(with_more(placed), wanted=told(placed, "mixed")), halt, ADD_MORE
+        yield replace(with_more(placed), wanted=reported(placed, "mixed")), halt, ADD_MORE
 
 
 def check_rows(report: Report, program: str) -> None:

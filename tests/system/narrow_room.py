@@ -60,7 +60,7 @@ def faults_in(program: str, case: Case, kind: int, most: int) -> list[str]:
 
 
 def of_many() -> Iterator[Case]:
-    """Yields runs over many files, each of which gives its memory back: they take no more than one."""
+    """Yields runs over many files. Each gives its memory back: they take no more than one."""
     for line, between in (("ktcheck", b""), ("klist -k", b"\n"), ("klist -k --json", b""), ("ktremove -n -e 17", b""),
                           ("ktcheck --json", b"")):
         two = undisturbed(f"{line} k k", k=sized(LIMIT))

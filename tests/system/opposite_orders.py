@@ -18,7 +18,7 @@ PAIRS = ((("ktremove -p b@R", "ktremove -p host/a@R"), KEYTAB),
 
 
 def check(report: Report, program: str) -> None:
-    """Makes each pair of runs. Each run tells once of each file, in its order."""
+    """Makes each pair of runs. Each run reports each file once, in its order."""
     for pair, (before, after) in PAIRS:
         with folder_of(dict.fromkeys(NAMES, before)) as folder, ThreadPoolExecutor(2) as pool:
             orders = NAMES, NAMES[::-1]
@@ -26,7 +26,7 @@ def check(report: Report, program: str) -> None:
             found = []
             for names, each in zip(orders, ended):
                 got = each.result()
-                told = [line.partition(": removed ")[0] for line in got.out.decode().splitlines()]
-                found += [] if got == Outcome(0, got.out) and told == names else [f"{got}"[:300]]
+                reported = [line.partition(": removed ")[0] for line in got.out.decode().splitlines()]
+                found += [] if got == Outcome(0, got.out) and reported == names else [f"{got}"[:300]]
             left = [name for name, image in files_in(folder).items() if image != after or name not in NAMES]
         report.check(" beside ".join(pair), found + [f"{name} is not as it should be" for name in left])

@@ -30,7 +30,7 @@ TALKS = (
     undisturbed("ktutil", b"frob\nrkt k\nrkt j\nwkt n\n", name="is at fault", **FILES),
 )
 
-# A buffered write has at most one more line or element, none of which has 2,000 bytes here. No message is
+# A buffered write has at most one more line or element, all below 2,000 bytes here. No message is
 # longer than a write may be.
 LONGEST, MESSAGE = 32_768 + 2_000, 1 << 20
 
@@ -93,7 +93,7 @@ def check_lost(report: Report, program: str) -> None:
 
 
 def pieces_of(program: str, case: Undisturbed, stream: str = "stdout") -> tuple[Outcome, list[int]]:
-    """Makes a run of which one output is a socket, and returns the length of each write to it."""
+    """Makes a run with a socket as one output, and returns the length of each write to it."""
     ours, theirs = socket.socketpair(socket.AF_UNIX, socket.SOCK_SEQPACKET)
     with folder_of(case.files) as folder, ours, subprocess.Popen(
         [program, *case.words], cwd=folder, stdin=subprocess.DEVNULL,

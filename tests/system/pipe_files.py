@@ -125,9 +125,9 @@ def check_several(report: Report, program: str) -> None:
             with make(os.path.join(folder, "pipe")) as is_used:
                 got = run(program, (EXPLAIN, *line.split()), folder)
                 faults = ["it was opened"] * is_used()
-        told = "".join(f"krbfile: {name}: cannot read\nkrbfile: {CAUSES['no plain file']}\n"
-                       for name in line.split() if name in PIPES)
-        report.check(f"{kind} among others: {line}", differences(Outcome(3, out, told.encode()), got) + faults)
+        errors = "".join(f"krbfile: {name}: cannot read\nkrbfile: {CAUSES['no plain file']}\n"
+                         for name in line.split() if name in PIPES)
+        report.check(f"{kind} among others: {line}", differences(Outcome(3, out, errors.encode()), got) + faults)
 
 
 check = every(check_changes, check_several)

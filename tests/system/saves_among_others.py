@@ -11,7 +11,7 @@ from runs.harness import Case, Outcome, Report, differences, every, folder_of, m
 from runs.system_calls import Halt, halted
 from runs.undisturbed import IN_PLACE, PROGRAM, undisturbed
 from system.saving import (B_NEW, B_OLD, B_SAVED, SAVED, UNSAVED, USER, Place, at, check_over, edit, link, refused,
-                           stands, tree, write)
+                           state_of, tree, write)
 
 # The calls after which a run is halted, each under a name.
 HALTS = {
@@ -66,7 +66,7 @@ CHANGED: list[tuple[str, bool, Place]] = [
 
 def known(folder: str) -> dict[str, tuple[object, ...]]:
     """Returns the contents of a folder, with owners, modes and times, except a new file of ours."""
-    return {name: own for name, own in stands(folder).items() if name != "k.krbfile" or own[0] not in (b"", NEW)}
+    return {name: own for name, own in state_of(folder).items() if name != "k.krbfile" or own[0] not in (b"", NEW)}
 
 
 def check_change(report: Report, program: str, call: str, of: tuple[str, bool, Place], *options: str) -> None:

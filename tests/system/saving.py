@@ -1,4 +1,4 @@
-"""Runs that save a file, in place too: what they tell, what they leave in its folder, and what is kept of the file."""
+"""Runs that save a file, in place too: what they print, what they leave in its folder, and what is kept of the file."""
 
 import os
 import stat
@@ -82,10 +82,10 @@ def faults_over(program: str, case: Run, *places: Place, left: Owned | None = No
     with folder_of(case.files) as folder:
         for place in places:
             place(folder)
-        before = stands(folder)
+        before = state_of(folder)
         wanted = {**tree(folder), **(case.files_after or {})}
         faults = differences(case.wanted, make(program, case, folder, **options))
-        after = stands(folder)
+        after = state_of(folder)
         faults += [f"{name} is not as it was" for name, own in before.items()
                    if own[0] == wanted[name] != "d" and own != after.get(name)]
         found = left and owned(os.path.join(folder, file_of(case)))
@@ -151,7 +151,7 @@ def tree_faults(wanted: dict[str, object], folder: str) -> list[str]:
     return [f"{name} is {got.get(name)!r}" for name in sorted({*wanted, *got}) if got.get(name) != wanted.get(name)]
 
 
-def stands(folder: str) -> dict[str, tuple[object, ...]]:
+def state_of(folder: str) -> dict[str, tuple[object, ...]]:
     """Returns the contents of a folder, with owners, modes and times."""
     found = {}
     for name, data in tree(folder).items():
@@ -178,7 +178,7 @@ def explained(outcome: Outcome, *phrases: str) -> Outcome:
 
 
 def refused(case: Run, cause: str, name: str = "") -> Case:
-    """Returns a run of which the file, by default its own, is not saved, for that cause, which is explained."""
+    """Returns a run that does not save the file of that name, or its own, for that cause, which is explained."""
     line = "line 2: " if "ktutil" in case.words else ""
     wanted = explained(unsaved(case, name, cause), line + CAUSES[cause].replace("NAME", name or file_of(case)))
     return Case(case.name, (EXPLAIN, *case.words), wanted, case.files, case.files, case.stdin)
@@ -189,8 +189,8 @@ def message_of(case: Run, aftermath: str) -> str:
     return f"{'line 2' if 'ktutil' in case.words else file_of(case)}: {AFTERMATHS[aftermath]}"
 
 
-def told(case: Run, aftermath: str) -> Outcome:
-    """Returns the outcome of a run that saves and tells what that left."""
+def reported(case: Run, aftermath: str) -> Outcome:
+    """Returns the outcome of a run that saves and reports what that left."""
     out = case.wanted.out
     if "hold" in case.words:
         out = out.removesuffix(HOLD_SAVED) + (b"lost\n" if aftermath == "lost change" else b"damaged\n")

@@ -72,7 +72,7 @@ def theorem(comment: str, name: str, left: str, right: str, proof: str = "refl")
 
 
 def proof_of(printed: bytes, front: str, rest: str) -> str:
-    """Returns the proof of what is printed, with what stands before and after it. It uses the theorem of each time,
+    """Returns the proof of what is printed, with what is before and after it. It uses the theorem of each time,
     since days are too many to count again."""
     parts = [f"time-{seconds(it)} i" if at % 2 else text(it) for at, it in enumerate(TIME.split(printed))]
     return f"λ i. {front}{' ++ ('.join(parts)}{')' * (len(parts) - 1)}{rest}" if len(parts) > 1 else "refl"

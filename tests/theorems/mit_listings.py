@@ -7,7 +7,7 @@ The text beside a file, `NAME.txt`, is what MIT's klist printed of it. Both say 
 - `DEPRECATED:` is left out, and DES has no name: `des-cbc-crc` is `etype 1`, `des-cbc-md5` is `etype 3`.
 - What MIT puts on one or two lines below a ticket, after a tab, has a line for each, after four spaces.
 - krbfile has a line for the flags of a ticket that has none.
-- MIT's `Etype (skey, tkt)` is that of the session key and that of the ticket, of which krbfile prints the first.
+- MIT's `Etype (skey, tkt)` is that of the session key and that of the ticket. krbfile prints the first.
   MIT prints neither if it cannot decode the ticket.
 - The value of a configuration entry is not broken into lines, and a byte that does not print is `\\x0a`, not `\\012`.
 """

@@ -6,7 +6,7 @@ import re
 from peers.corpus import cases, writers
 from theorems.antt import Module, bytes_of_digits, file_of, identifier, text, theorem
 
-# Files that are as their writers left them, without holes. Written anew, each has the same bytes.
+# Files that are as their writers left them, without holes. Rewritten, each has the same bytes.
 WRITTEN = {
     "keytab": ("empty-v2", "gokrb5-new", "ktadd-all-etypes", "ktutil-kvno-edge", "mit-t_keytab-c", "name-slash",
                "name-utf8"),
@@ -48,8 +48,8 @@ def settings() -> str:
 
 
 def rewritten(kind: str, name: str) -> str:
-    """Returns the theorem that a file has the same bytes when it is written anew."""
-    return theorem(f"{writers()[name]}: written anew it has the same bytes", f"{identifier(name)}-written",
+    """Returns the theorem that a file has the same bytes when it is rewritten."""
+    return theorem(f"{writers()[name]}: rewritten it has the same bytes", f"{identifier(name)}-written",
                    REWRITE[kind].format(file_of(name)), file_of(name))
 
 

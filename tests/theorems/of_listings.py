@@ -11,11 +11,11 @@ from peers.corpus import cases, files, given, writers
 from theorems.antt import Module, bytes_of_digits, file_of, identifier, listed, proof_of, text, theorem
 from theorems.mit_listings import cache_listing, credentials, keytab_listing, parts_of
 
-# Files of which MIT's programs say something else: they stop at an empty component, and read a record of version 1
+# Files where MIT's programs say something else: they stop at an empty component, and read a record of version 1
 # that is longer than the file, and krbfile refuses version 2.
 ALONE = ("heim-names", "v1-le-mit-two", "v1-le-mit-removed", "kinit-v2")
 
-# Damaged files: MIT's programs list what is before the damage, and do not tell of it.
+# Damaged files: MIT's programs list what is before the damage, and do not report it.
 DAMAGED = ("hole-last-truncated", "stray-3-bytes", "truncated")
 
 # Caches with tickets that MIT's klist cannot decode: of such a ticket it shows no encryption type.

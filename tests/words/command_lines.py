@@ -82,7 +82,7 @@ SAME: dict[str, str] = {
         *(f"{' '.join(run.words)} -h" for run in (*READS, *CHANGES) if run.words[0] == name))) for name in COMMANDS},
 }
 
-# The defaults that help tells.
+# The defaults that help names.
 DEFAULTS = {"klist": (b"KRB5CCNAME", b"KRB5_KTNAME", b"/etc/krb5.keytab", b"/tmp/krb5cc_"),
             "ktcheck": (b"KRB5_KTNAME", b"/etc/krb5.keytab")}
 

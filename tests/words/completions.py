@@ -48,7 +48,7 @@ LINES = {
     "ktremove --enctype aes256-cts-hmac-sha1": {"aes256-cts-hmac-sha1-96"},
 }
 
-# The statuses that help tells, and how it ends.
+# The statuses that help lists, and how it ends.
 STATUSES = "01234"
 END = re.compile(r"\nStatuses:\n((?:  \d  .*\n)*)Example: (.*)\n  (.*krbfile.*)\n\Z")
 
@@ -74,8 +74,8 @@ def check_ends(report: Report, program: str) -> None:
     with status 0 and without a message."""
     for command in sorted(offered(program, "")[0] - {"help"}):
         statuses, _, example = END.search(helped(program, command)).groups()
-        told = "".join(line.split()[0] for line in statuses.splitlines())
-        report.check(f"the statuses of krbfile {command} --help", [] if told == STATUSES else [f"it tells {told}"])
+        listed = "".join(line.split()[0] for line in statuses.splitlines())
+        report.check(f"the statuses of krbfile {command} --help", [] if listed == STATUSES else [f"it lists {listed}"])
         with folder_of_samples() as folder, installed(program) as env:
             got = run("sh", ("-c", example), folder, env=env)
         is_right = f"krbfile {command} " in f"{example} " and (got.status, got.err) == (0, b"")

@@ -73,10 +73,10 @@ def check_told(report: Report, program: str) -> None:
 def check(report: Report, program: str) -> None:
     """Checks the environment, and an input and an output that fail."""
     check_told(report, program)
-    for line, redirection, *told in (("klist -k k", "> /dev/full", "cannot write output", CAUSES["ENOSPC"]),
-                                     *((line, "< .", "cannot read input", CAUSES["EISDIR"])
-                                       for line in ("ktutil", "ktedit k", "ccedit k"))):
-        row = case(f"{line} {redirection}", line, TWO, tuple(told), status=3)
+    for line, redirection, *errors in (("klist -k k", "> /dev/full", "cannot write output", CAUSES["ENOSPC"]),
+                                       *((line, "< .", "cannot read input", CAUSES["EISDIR"])
+                                         for line in ("ktutil", "ktedit k", "ccedit k"))):
+        row = case(f"{line} {redirection}", line, TWO, tuple(errors), status=3)
         for way, (make, explains) in WAYS.items():
             words = (*[EXPLAIN] * (way == EXPLAIN), *row.words)
             with folder_of(row.files) as folder:

@@ -23,8 +23,8 @@ def check(report: Report, program: str) -> None:
     """Has a shell run the commands of the hints, beside no other file."""
     for word in WORDS:
         with folder_of({re.sub("^(WR)?FILE:", "", word): ALL}) as folder, installed(program) as env:
-            told = run(program, (EXPLAIN, "ktcheck", "--", word), folder).err.decode()
-            commands = re.findall(r"^krbfile: to .*: (krbfile (?s:.+?))\n(?=krbfile: to|\Z)", told, re.MULTILINE)
+            hints = run(program, (EXPLAIN, "ktcheck", "--", word), folder).err.decode()
+            commands = re.findall(r"^krbfile: to .*: (krbfile (?s:.+?))\n(?=krbfile: to|\Z)", hints, re.MULTILINE)
             report.check(f"the hints for {word!r}", [] if len(commands) == 3 else [f"{commands}"])
             for command, wanted in zip(commands, (REMOVED, REMOVED, COPIED)):
                 report.compare(command, wanted, run("sh", ("-c", command), folder, env=env))

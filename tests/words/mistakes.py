@@ -10,7 +10,7 @@ from words.phrases import code
 
 MESSAGE = b"krbfile: bad command line\n"
 
-# A word that may be a key, what stands in its place, and a word that is too short for a key.
+# A word that may be a key, what is printed in its place, and a word that is too short for a key.
 KEY = "00112233445566778899aabbccddeeff"
 DIGITS = "a word of hexadecimal digits"
 SHORT = "0123456789abcde"

@@ -1,5 +1,5 @@
 """What numbers, findings, failed calls and bad command lines are explained by: the lists of the manual pages and of
-FORMATS, and the phrases that stand in no list. All tests compare with them.
+FORMATS, and the phrases that are in no list. All tests compare with them.
 
 A phrase is in lower case, without a full stop, and has at most 72 characters.
 """
@@ -17,7 +17,7 @@ Numbered = dict[tuple[int, str], str]
 
 
 def part(page: str, start: str, end: str) -> str:
-    """Returns what stands on a page between two texts."""
+    """Returns what is on a page between two texts."""
     return page.partition(start)[2].partition(end)[0]
 
 

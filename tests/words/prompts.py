@@ -16,7 +16,7 @@ COMMAND, KEY_PROMPT, PASSWORD = "ktutil: ", "Key for a@R (hex): ", "password (no
 ADD, FROM_PASSWORD = (f"addent {word} -p a@R -k 1 -e 17\n" for word in ("-key", "-password"))
 FAULT = f"krbfile: line 1: fault 2\nkrbfile: line 1: {NO_PASSWORDS}\n"
 
-# Words, what is typed, and what stands on the terminal then, which does not show what is typed.
+# Words, what is typed, and what is on the terminal then, which does not show what is typed.
 TYPED = (
     ("ktutil", "q\n", COMMAND),
     ("ktutil", f"\nl\n{END}", COMMAND * 3 + "\n"),
@@ -53,5 +53,5 @@ def check(report: Report, program: str) -> None:
             got = typed(program, words, lines, folder, True)
             report.check(f"{words}, {lines!r}", [] if got.err.decode() == wanted else [f"{got}, not {wanted!r}"])
             silent = typed(program, words, lines, folder, False)
-            told = [each for each in (COMMAND, KEY_PROMPT, PASSWORD, SCRIPT) if each.encode() in silent.err]
-            report.check(f"{words}, {lines!r}: no prompt in a pipe", told)
+            prompts = [each for each in (COMMAND, KEY_PROMPT, PASSWORD, SCRIPT) if each.encode() in silent.err]
+            report.check(f"{words}, {lines!r}: no prompt in a pipe", prompts)

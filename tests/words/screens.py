@@ -20,7 +20,7 @@ TAMED = b"\\x1b]0;x\\x07\\x0d\\x0b\\x1f\\x7f \\xc2\\x9b31m\\xc2\\x80\xc2\xa0\xc3
 WILD_FILES = {"k": keytab(Entry((WILD, b"a")), B),
               "c": cache(replace(TICKET, server=Name((WILD, b"a"))), default=Name((WILD,)))}
 
-# The name of a file, which is UTF-8, and files of which JSON prints such a name.
+# The name of a file, which is UTF-8, and files with such a name that JSON prints.
 FILE = "k\x1b[2J\r\t\x7f\x9b31mé"
 TEXTS = {"j": keytab(Entry((FILE.encode(),))), "d": cache(default=Name((FILE.encode(),)))}
 

@@ -31,8 +31,8 @@ pub use Rattle.krb_wire.proofs.Fields.{some_is, is_some_has, wide32}
 pub use Rattle.krb_wire.specs.Names.{have_same_name, name_text}
 pub use Rattle.krb_wire.specs.Spelling.{Parts, FitsKt, order_of, kt_principal, name_type_field, data16, HasNameType, digits}
 pub use Rattle.krb_wire.specs.declared.format.KtFormat.{KtFormat}
-pub use Rattle.krb_audit.specs.Table.{with_if, none, has_some}
-pub use Rattle.krb_audit.specs.declared.finding.TheConstants.{FINDINGS, ABOUT_ENTRIES}
+pub use Rattle.krb_findings.specs.Table.{with_if, none, has_some}
+pub use Rattle.krb_findings.specs.declared.finding.TheConstants.{FINDINGS, ABOUT_ENTRIES}
 pub use Rattle.krb_audit.specs.declared.rows.Names.{Names}
 pub use Rattle.krb_keytab.specs.declared.cells.KtCell.{KtCell}
 pub use Rattle.krb_keytab.proofs.EntryLists.{entries_of_cells, listed_live}

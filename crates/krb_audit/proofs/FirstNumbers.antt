@@ -1,8 +1,7 @@
 -- The number of the first entry of a name.
-use Rattle.krb_audit.proofs.Cited.{◌≡◌, ℕ, ◌+◌, ◌≤◌, true, List, [], ◌∷◌, Some, refl, arith, eq-eqb, eqb-true, Parts, have_same_name, PlacedEntry, first_number, ◌==◌, on_equiv, and_equiv, nat_list_eq_equiv, lists_equiv, first_from, IsEquivalence}
+use Rattle.krb_audit.proofs.Cited.{◌≡◌, ℕ, ◌+◌, ◌≤◌, true, List, [], ◌∷◌, Some, refl, arith, eq-eqb, eqb-true, Parts, have_same_name, PlacedEntry, first_number, ◌==◌, first_from}
+use Rattle.krb_names.proofs.SameNames.{same_equiv}
 
-pub same_equiv : IsEquivalence have_same_name
-same_equiv = and_equiv (on_equiv (λ (p : Parts). p.realm) nat_list_eq_equiv) (on_equiv (λ (p : Parts). p.components) (lists_equiv nat_list_eq_equiv))
 
 -- names that are the same have the same first entry
 pub first_alike : (n : ℕ) (p q : Parts) (xs : List PlacedEntry) → have_same_name p q ≡ true → first_from n p xs ≡ first_from n q xs

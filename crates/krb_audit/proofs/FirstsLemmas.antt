@@ -1,7 +1,8 @@
 -- The first entry that is alike, when one more entry is added.
 use Rattle.krb_audit.proofs.Cited.{◌≡◌, arith, ℕ, Bool, true, false, cond, List, [], ◌∷◌, ◌++◌, Option, Some, None, refl, ap, ◌∙◌, option_map, bytes_eq, PlacedEntry, first_number, find, on_equiv, and_equiv, nat_eq_equiv, find-append, as_alike, is_alike, IsEquivalence, Alike, first_alike, AreFirsts, Key, same_key}
 use Rattle.std.specs.Option.{option_or, unwrap_or}
-use Rattle.krb_audit.proofs.FirstNumbers.{number_test, same_equiv}
+use Rattle.krb_audit.proofs.FirstNumbers.{number_test}
+use Rattle.krb_names.proofs.SameNames.{same_equiv}
 
 alike_equiv : IsEquivalence is_alike
 alike_equiv = and_equiv (on_equiv (λ (x : PlacedEntry). x.1.principal) same_equiv)

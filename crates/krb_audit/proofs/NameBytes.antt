@@ -55,7 +55,7 @@ name_taken f e bytes n s is =
     let o = opens f e bytes s in
     ap (take n) o.parts ∙ take_at (kt_name f e.principal) (name_type_field f e.principal.name_type ++ o.rest) n (sym is)
 
--- ---- told apart
+-- ---- distinct
 
 -- the name without its type
 abbrev untyped : Parts → Parts

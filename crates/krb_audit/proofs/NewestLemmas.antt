@@ -1,7 +1,7 @@
 -- The newest entry of a name is one of its entries, and not old.
 use Rattle.krb_audit.proofs.Cited.{◌≡◌, Bool, true, false, cond, List, [], ◌∷◌, Option, Some, None, refl, subst, arith, eq-eqb, Parts, have_same_name, EntryParts, PlacedEntry, is_old, ◌⊎◌, inl, inr, filter, Contains, is_newer, newer, newest_from, newest, has_other_version, Contains-append_left, Contains-append_right, Contains-append_cases, Contains-push, Contains-push_cases, filter_agree}
 use Rattle.krb_audit.specs.Laws.{HasEntry}
-use Rattle.krb_audit.proofs.FirstNumbers.{same_equiv}
+use Rattle.krb_names.proofs.SameNames.{same_equiv}
 
 -- ---- it is one of the entries
 

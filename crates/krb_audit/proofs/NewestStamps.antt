@@ -1,6 +1,7 @@
 -- The newest stamps at the numbers of names.
 use Rattle.krb_audit.proofs.Cited.{◌≡◌, ℕ, Bool, cond, List, [], ◌∷◌, get_or, replicate, Option, Some, None, refl, ap, sym, subst, ◌∙◌, arith, option_map, fold, All, Parts, have_same_name, EntryParts, PlacedEntry, Row, Stamp, is_old, AreRows, HasPlace, first_number, stamp_of, AreNewest, ◌==◌, filter, cases_lt, get_or-replicate, get_or_past, length-replicate, has_other_version, newer, newest, newest_from, newer_stamp, stamped, is_old_row}
-use Rattle.krb_audit.proofs.FirstNumbers.{number_test, same_equiv}
+use Rattle.krb_audit.proofs.FirstNumbers.{number_test}
+use Rattle.krb_names.proofs.SameNames.{same_equiv}
 use Rattle.krb_audit.proofs.RowLemmas.{IsRow, at_number, fold_rows, stepped}
 
 -- the newest stamps with one more row

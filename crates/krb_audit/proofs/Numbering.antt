@@ -2,7 +2,8 @@
 use Rattle.krb_audit.proofs.Cited.{◌≡◌, arith, ℕ, ◌+◌, Bool, cond, List, [], ◌∷◌, ◌++◌, length, map, Option, Some, refl, sym, ap, ◌∙◌, append_assoc, bytes_eq, KtFormat, Parts, have_same_name, PlacedEntry, Row, Stamp, AreNumbered, first_number, stamp_of, kt_name, unwrap_or, option_or, length_push, map_push, FitsKt, HashedName, hash_of, name_cmp, to_name, first_from, row_in, shown, Bor, Names}
 use Rattle.std.specs.BTreeMap.{BTreeMap, get, get_by, Updates}
 use Rattle.krb_names.proofs.NameOrder.{hashes_tie}
-use Rattle.krb_audit.proofs.FirstNumbers.{same_equiv, first_alike}
+use Rattle.krb_audit.proofs.FirstNumbers.{first_alike}
+use Rattle.krb_names.proofs.SameNames.{same_equiv}
 use Rattle.krb_audit.proofs.NameBytes.{same_bytes}
 
 -- ---- the map

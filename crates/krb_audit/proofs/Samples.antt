@@ -2,7 +2,7 @@
 use Rattle.std.specs.Prelude.{◌≡◌, [], ◌∷◌, codes, Some, true}
 use Rattle.krb_audit.proofs.Cited.{refl, finding_lines, none, with_if}
 use Rattle.krb_audit.proofs.OnLiterals.{krb_audit_on_literals}
-use Rattle.krb_audit.specs.declared.finding.Finding.TheVariants.{Weak, Size, Hidden, Clash, Old}
+use Rattle.krb_findings.specs.declared.finding.Finding.TheVariants.{Weak, Size, Hidden, Clash, Old}
 
 -- what is found about an entry has its order: weak, size, hidden, same or clash, old, aged
 pub order : finding_lines [] none (

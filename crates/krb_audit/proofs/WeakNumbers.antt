@@ -3,7 +3,7 @@ use Rattle.krb_audit.proofs.Cited.{◌≡◌, ℕ, ◌<◌, Bool, true, false, L
 use Rattle.std.proofs.lemmas.List.FromFn.{fill_by_all, get_or-map-range_with_len, length-map-range_with_len}
 use Rattle.krb_text.specs.Etype.{Etype, etype_numbered, etype_table, is_weak}
 use Rattle.krb_text.proofs.Found.{MatchOption-find}
-use Rattle.krb_audit.specs.declared.weak_etypes.WeakEtypes.{WeakEtypes}
+use Rattle.krb_findings.specs.declared.weak_etypes.WeakEtypes.{WeakEtypes}
 use Rattle.krb_audit.specs.Findings.{is_weak_among, weak_among}
 
 -- ---- all are below 27

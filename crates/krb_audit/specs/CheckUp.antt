@@ -9,13 +9,13 @@ use Rattle.krb_keytab.specs.Cells.{Cell, Live, Free, size}
 use Rattle.krb_keytab.specs.Find.{PlacedEntry, placed_entries}
 use Rattle.krb_keytab.specs.Store.{KeytabState, store_of}
 use Rattle.krb_audit.specs.declared.counts.Counts.{Counts}
-use Rattle.krb_audit.specs.declared.finding.Finding.{Finding}
-use Rattle.krb_audit.specs.declared.finding.Finding.TheVariants.{Mode, Missing, Empty}
-use Rattle.krb_audit.specs.declared.finding.TheConstants.{FINDINGS}
-use Rattle.krb_audit.specs.declared.finding_set.FindingSet.{FindingSet}
-use Rattle.krb_audit.specs.declared.weak_etypes.WeakEtypes.{WeakEtypes}
+use Rattle.krb_findings.specs.declared.finding.Finding.{Finding}
+use Rattle.krb_findings.specs.declared.finding.Finding.TheVariants.{Mode, Missing, Empty}
+use Rattle.krb_findings.specs.declared.finding.TheConstants.{FINDINGS}
+use Rattle.krb_findings.specs.declared.finding_set.FindingSet.{FindingSet}
+use Rattle.krb_findings.specs.declared.weak_etypes.WeakEtypes.{WeakEtypes}
 use Rattle.krb_audit.specs.Findings.{Marked, reported, weak_among}
-use Rattle.krb_audit.specs.Table.{has_some, joined, none, row_of, with_if, without}
+use Rattle.krb_findings.specs.Table.{has_some, joined, none, row_of, with_if, without}
 
 -- ---- the mode
 

@@ -6,14 +6,14 @@ use Rattle.krb_keytab.specs.Entry.{EntryParts}
 use Rattle.krb_keytab.specs.Find.{PlacedEntry, placed_entries}
 use Rattle.krb_keytab.specs.Store.{KeytabState}
 use Rattle.krb_text.specs.Etype.{is_key_size, is_weak}
-use Rattle.krb_audit.specs.declared.finding.Finding.{Finding}
-use Rattle.krb_audit.specs.declared.finding.Finding.TheVariants.{Weak, Hidden, Same, Clash, Old, Size, Aged}
+use Rattle.krb_findings.specs.declared.finding.Finding.{Finding}
+use Rattle.krb_findings.specs.declared.finding.Finding.TheVariants.{Weak, Hidden, Same, Clash, Old, Size, Aged}
 use Rattle.krb_audit.specs.declared.firsts.Alike.{Alike}
 use Rattle.krb_audit.specs.declared.marks.Marks.{Marks}
-use Rattle.krb_audit.specs.declared.weak_etypes.WeakEtypes.{WeakEtypes}
+use Rattle.krb_findings.specs.declared.weak_etypes.WeakEtypes.{WeakEtypes}
 use Rattle.krb_audit.specs.Newest.{is_old}
-use Rattle.krb_audit.specs.Table.{has_some, set_of}
-use Rattle.krb_audit.specs.Twins.{are_twins}
+use Rattle.krb_findings.specs.Table.{has_some, set_of}
+use Rattle.krb_names.specs.Twins.{are_twins}
 
 -- a count or a length with which MIT's programs read no entry
 abbrev pub is_out : ℕ → Bool
@@ -33,11 +33,11 @@ first_hidden xs = option_map (λ x. x.0) (find (λ x. ends_mit x.1) xs)
 abbrev pub hidden_from : KeytabState → Option ℕ
 hidden_from k = first_hidden (placed_entries k)
 
--- that place, if one of these is not before it
+-- `from`, if one of `places` is at or after it
 abbrev pub hidden_at : List ℕ → ℕ → Option ℕ
 hidden_at places from = if list_any (λ p. nat_le from p) places then Some from else None
 
--- the place from which on they see no entry, if one of the entries that were added, at these places, is among those
+-- the place from which on they see no entry, if an entry was added there or later
 abbrev pub hides_added : KeytabState → List ℕ → Option ℕ
 hides_added k added = option_and_then (hidden_at added) (hidden_from k)
 
@@ -89,6 +89,12 @@ marks_of aged_by k before x = record {
   findings = set_of (is_found aged_by k before x);
   first = option_map (λ first. first.place) (first_alike before x);
 }
+
+-- the place of the first entry that is alike, if a finding is about that
+abbrev pub first_for : Marks → Finding → Option ℕ
+first_for marks Same = marks.first
+first_for marks Clash = marks.first
+first_for marks finding = None
 
 -- a weak enctype that one of some entries has
 abbrev pub is_weak_among : List PlacedEntry → ℕ → Bool

@@ -21,7 +21,7 @@ AreNewest xs newest = (p : Parts) (i : ℕ) → first_number p xs ≡ Some i →
 abbrev pub is_old_row : List (Option Stamp) → Row → Bool
 is_old_row newest r = has_other_version (stamped r.stamp) (option_map stamped (get_or newest r.first None))
 
--- a row is that of an entry of its name's newest kvno which may be less than so many seconds old
+-- a row is that of an entry of its name's newest kvno which may be less than `seconds` old
 abbrev pub is_young_row : ℕ → ℕ → List (Option Stamp) → Row → Bool
 is_young_row now seconds newest r = is_young now seconds (stamped r.stamp) && not (is_old_row newest r)
 

@@ -1,8 +1,6 @@
-pub mod Twins
 pub mod Newest
 pub mod Selection
 pub mod Tickets
-pub mod Table
 pub mod Findings
 pub mod CheckUp
 pub mod Report

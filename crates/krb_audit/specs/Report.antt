@@ -3,15 +3,16 @@ use Rattle.std.specs.Prelude.{ℕ, zero, suc, ◌/◌, ◌%◌, ◌+◌, List, [
 use Rattle.std.specs.List.{flat_map}
 use Rattle.krb_walk.specs.declared.fault.Fault.{Fault}
 use Rattle.krb_keytab.specs.Find.{PlacedEntry}
-use Rattle.krb_text.specs.Listing.{placed_line, fault_line}
+use Rattle.krb_keytab_text.specs.Listing.{placed_line}
+use Rattle.krb_text.specs.FaultLine.{fault_line}
 use Rattle.krb_audit.specs.declared.counts.Counts.{Counts}
-use Rattle.krb_audit.specs.declared.finding.Finding.TheVariants.{Mode, Missing, Empty}
-use Rattle.krb_audit.specs.declared.finding.Finding.{Finding}
-use Rattle.krb_audit.specs.declared.finding.TheConstants.{ABOUT_ENTRIES}
-use Rattle.krb_audit.specs.declared.finding_set.FindingSet.{FindingSet}
+use Rattle.krb_findings.specs.declared.finding.Finding.TheVariants.{Mode, Missing, Empty}
+use Rattle.krb_findings.specs.declared.finding.Finding.{Finding}
+use Rattle.krb_findings.specs.declared.finding.TheConstants.{ABOUT_ENTRIES}
+use Rattle.krb_findings.specs.declared.finding_set.FindingSet.{FindingSet}
 use Rattle.krb_audit.specs.CheckUp.{CheckParts, is_open}
-use Rattle.krb_audit.specs.Findings.{Marked}
-use Rattle.krb_audit.specs.Table.{first_for, has, row_of}
+use Rattle.krb_audit.specs.Findings.{Marked, first_for}
+use Rattle.krb_findings.specs.Table.{has, row_of}
 
 -- a number in octal without leading zeros: at most its last `places` digits
 abbrev pub octal : ℕ → ℕ → List ℕ

@@ -8,7 +8,7 @@ use Rattle.krb_wire.specs.Spelling.{Parts}
 use Rattle.krb_keytab.specs.Entry.{EntryParts}
 use Rattle.krb_keytab.specs.Find.{PlacedEntry, placed_entries}
 use Rattle.krb_keytab.specs.Store.{KeytabState}
-use Rattle.krb_text.specs.Listing.{removed_line}
+use Rattle.krb_keytab_text.specs.Listing.{removed_line}
 use Rattle.krb_audit.specs.declared.selection.SelectedKvno.{SelectedKvno}
 use Rattle.krb_audit.specs.declared.selection.SelectedKvno.TheVariants.{Any, Exactly, Newest, Old, OldFor}
 use Rattle.krb_audit.specs.declared.selection.Selection.{Selection}
@@ -33,11 +33,11 @@ has_selected_enctype (first ∷ others) enctype = list_any (nat_eq enctype) (fir
 abbrev pub is_named : {A : Type 0} → Selection A → EntryParts → Bool
 is_named s e = has_text (map vec_items s.names.items) e.principal && has_selected_enctype s.enctypes.items e.enctype
 
--- an entry may be less than so many seconds old: it is, or its time is 0, which says nothing of when
+-- an entry may be less than `seconds` old: it is, or its time is 0, which says nothing of when
 abbrev pub is_young : ℕ → ℕ → EntryParts → Bool
 is_young now seconds e = e.timestamp == 0 || nat_lt now (e.timestamp + seconds)
 
--- an entry is of that name and its newest kvno, and may be less than so many seconds old
+-- an entry is of that name and its newest kvno, and may be less than `seconds` old
 abbrev pub is_young_of : ℕ → ℕ → List PlacedEntry → Parts → PlacedEntry → Bool
 is_young_of now seconds xs name x = have_same_name name x.1.principal && (is_young now seconds x.1 && not (is_old xs x.1))
 

@@ -2,14 +2,12 @@
 
 ghost use Rattle.std.specs.Prelude.{◌≡◌, IfOk, map};
 ghost use Rattle.std.specs.Vec.{vec_items};
-ghost use Rattle.krb_audit.specs.CheckUp.{about_entries, checked, findings_of, is_empty, is_wrong, uncounted};
+ghost use Rattle.krb_audit.specs.CheckUp.{about_entries, checked, counts_at, findings_of, is_empty, is_wrong, uncounted};
 
 use crate::counts::{Counts, counts_of};
-use crate::finding::Finding;
-use crate::finding_set::FindingSet;
 use crate::findings::{Marked, check_entries};
-use crate::mode::is_open_file;
-use crate::weak_etypes::WeakEtypes;
+use crate::mode::{is_open_file, is_open_to_all};
+use krb_findings::{FINDINGS, Finding, FindingSet, WeakEtypes};
 use krb_keytab::Keytab;
 use krb_walk::Fault;
 use krb_wire::NoMemory;
@@ -46,6 +44,27 @@ impl<'k, A: Allocator> Model for CheckUp<'k, A> {
     } };
 
     ghost invariant = { λ v. v.findings ≡ findings_of (view v) };
+}
+
+// Returns whether a finding makes the status 1: a mode does if others may read or write the plain file.
+fn counts_at(mode: Option<u32>, finding: Finding) -> bool
+    ensures { result ≡ counts_at mode finding }
+{
+    match finding {
+        Finding::Mode => is_open_to_all(mode),
+        _ => finding.row().counts,
+    }
+}
+
+// Returns the findings that are allowed, and those that do not make the status 1.
+fn with_uncounted(allowed: FindingSet, mode: Option<u32>) -> FindingSet
+    ensures { result ≡ uncounted mode allowed }
+{
+    let mut uncounted = allowed;
+    'findings: for finding in &FINDINGS {
+        uncounted = uncounted.with_if(!counts_at(mode, *finding), *finding);
+    }
+    uncounted
 }
 
 impl<'k, A: Allocator> CheckUp<'k, A> {
@@ -109,7 +128,7 @@ impl<'k, A: Allocator> CheckUp<'k, A> {
     pub fn uncounted(&self, allowed: FindingSet) -> FindingSet
         ensures { result ≡ uncounted self.now.mode allowed }
     {
-        allowed.with_uncounted(self.mode)
+        with_uncounted(allowed, self.mode)
     }
 
     /// Returns whether something is wrong: a finding that counts for the status, or a fault.

@@ -19,8 +19,9 @@ fn has_selected_enctype(selected: &[u16], enctype: u16) -> bool
     selected.is_empty() || selected.contains(&enctype)
 }
 
-/// Returns whether an entry has a selected name and a selected enctype, or `false` if nothing hangs on it: its kvno is
-/// not selected, and some entry is known to be named. Asks the filter of the selected names.
+/// Returns whether an entry has a selected name and a selected enctype. Skips the work, with `false`, if neither the
+/// selection nor a message depends on it: its kvno is not selected, and some entry is known to be named. Asks the filter
+/// of the selected names.
 pub fn is_named_if_it_matters<A: Allocator, B: Allocator>(
     is_any_named: bool,
     has_kvno: bool,

@@ -12,8 +12,6 @@ ghost use Rattle.krb_audit.specs.declared.selection.SelectedKvno.TheVariants.{Ol
 ghost use Rattle.krb_audit.specs.KvnoMarks.{AreMarks};
 ghost use Rattle.krb_audit.specs.Rows.{AreRows};
 
-use crate::finding::Finding;
-use crate::finding_set::FindingSet;
 use crate::firsts::{Alike, Firsts};
 use crate::kvno_marks::{marks_of, next_mark};
 use crate::marks::Marks;
@@ -21,7 +19,8 @@ use crate::missing::Missing;
 use crate::mit::ends_mit;
 use crate::rows::{Row, next_number, rows_of};
 use crate::selection::SelectedKvno;
-use crate::weak_etypes::WeakEtypes;
+use crate::weak_etypes::{add_weak, no_weak};
+use krb_findings::{Finding, FindingSet, WeakEtypes};
 use krb_keytab::{EntryView, Keytab};
 use krb_text::{is_weak, key_size};
 use krb_wire::NoMemory;
@@ -121,7 +120,7 @@ impl<'a, A: Allocator + Copy> Before<'a, A> {
             firsts: Firsts::new(alloc),
             missing,
             has_ended: false,
-            weak_etypes: WeakEtypes::none(),
+            weak_etypes: no_weak(),
         }
     }
 
@@ -147,7 +146,7 @@ impl<'a, A: Allocator + Copy> Before<'a, A> {
         let key = (Reverse(first), kvno, etype);
         let alike = self.firsts.consider(key, place, entry.key())?;
         self.has_ended = either(self.has_ended, ends);
-        self.weak_etypes.add(etype);
+        add_weak(&mut self.weak_etypes, etype);
         Ok(Marks {
             findings: FindingSet::none()
                 .with_if(is_weak(etype), Finding::Weak)

@@ -5,8 +5,6 @@
 mod check;
 mod counts;
 mod criteria;
-mod finding;
-mod finding_set;
 mod findings;
 mod firsts;
 mod kvno_marks;
@@ -27,8 +25,6 @@ mod young;
 
 pub use check::{CheckUp, check_up};
 pub use counts::Counts;
-pub use finding::{ABOUT_ENTRIES, FINDINGS, Finding, FindingRow};
-pub use finding_set::FindingSet;
 pub use findings::Marked;
 pub use kvno_marks::{marks_of, next_mark};
 pub use laws::{each_name_keeps_an_entry, hints_name_each_weak_etype};
@@ -39,4 +35,3 @@ pub use report::append_report;
 pub use rows::{Row, next_number, rows_of};
 pub use selection::{Selected, SelectedKvno, Selection, select, selected_entries};
 pub use tickets::{SelectedTickets, TicketCriteria, select_tickets};
-pub use weak_etypes::WeakEtypes;

@@ -1,10 +1,9 @@
 //! What is found about an entry.
 
 ghost use Rattle.std.specs.Prelude.{◌≡◌};
-ghost use Rattle.krb_audit.specs.Table.{first_for};
+ghost use Rattle.krb_audit.specs.Findings.{first_for};
 
-use crate::finding::Finding;
-use crate::finding_set::FindingSet;
+use krb_findings::{Finding, FindingSet};
 
 /// What is found about an entry.
 #[derive(Clone, Copy, Debug, PartialEq, Eq)]

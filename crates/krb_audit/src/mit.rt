@@ -52,14 +52,14 @@ fn hidden_from<A: Allocator>(keytab: &Keytab<A>) -> Option<u32>
     None
 }
 
-// Returns whether one of the places is not before that one.
+// Returns whether one of `places` is at or after `from`.
 fn reach(places: &[u32], from: u32) -> bool
     ensures { result ≡ list_any (λ p. nat_le from p) places.now }
 {
     places.iter().any(|place| from <= *place)
 }
 
-/// Returns that place if one of the entries that were added, at these places, is not before it.
+/// Returns the place from which on MIT's programs see no entry, if an entry was added there or later.
 pub fn hides_added<A: Allocator>(keytab: &Keytab<A>, added: &[u32]) -> Option<u32>
     ensures { result ≡ hides_added keytab.now.state added.now }
 {

@@ -3,16 +3,16 @@
 ghost use Rattle.std.specs.Prelude.{◌≡◌, ◌++◌, OnOk, map};
 ghost use Rattle.std.specs.List.{flat_map};
 ghost use Rattle.krb_audit.specs.Report.{count_line, empty_line, finding_line, finding_lines, labelled_fault, missing_line, missing_lines, mode_line, placed_rest, report};
-ghost use Rattle.krb_audit.specs.Table.{row_of};
+ghost use Rattle.krb_findings.specs.Table.{row_of};
 
 use crate::check::CheckUp;
 use crate::counts::Counts;
-use crate::finding::{ABOUT_ENTRIES, Finding};
-use crate::finding_set::FindingSet;
 use crate::findings::Marked;
 use crate::mode::{append_mode_digits, is_open};
 use krb_keytab::EntryView;
-use krb_text::{append, append_byte, append_fault_line, append_labelled, append_placed};
+use krb_findings::{ABOUT_ENTRIES, Finding, FindingSet};
+use krb_keytab_text::append_placed;
+use krb_text::{append, append_byte, append_fault_line, append_labelled};
 use krb_walk::Fault;
 use krb_wire::NoMemory;
 use std::alloc::Allocator;

@@ -9,7 +9,8 @@ use crate::criteria::is_named_if_it_matters;
 use crate::kvno_marks::SelectedVersions;
 use crate::name_filter::NameFilter;
 use krb_keytab::{EntryView, Keytab};
-use krb_text::{append, append_placed};
+use krb_keytab_text::append_placed;
+use krb_text::append;
 use krb_wire::NoMemory;
 use std::alloc::Allocator;
 
@@ -22,7 +23,7 @@ pub enum SelectedKvno {
     Newest,
     /// Any kvno other than that of the newest entry of the name.
     Old,
-    /// The same, of names whose entries of the newest kvno are all at least so many seconds old.
+    /// The same, of names whose entries of the newest kvno are all at least that many seconds old.
     OldFor(u32),
 }
 

@@ -39,7 +39,7 @@ fn mark_if<A: Allocator>(holds: bool, young: &mut Vec<bool, A>, row: Row)
     }
 }
 
-// Returns a list that has, at the number of the first entry of each name, whether the name has such an entry.
+// Returns for each name, at the number of its first entry, whether its newest version may be younger than `seconds`.
 fn young_for<A: Allocator + Copy>(
     alloc: A,
     rows: &[Row],

@@ -22,7 +22,7 @@ abbrev pub cache_in : Held → Option CacheState
 cache_in (Keytab k) = None
 cache_in (Cache c) = Some c.state
 
--- the types of the fields of the two variants, each of which has one
+-- the types of the fields of the two variants, which have one each
 abbrev first : List (List RattleType) → RattleType
 first ((row ∷ []) ∷ (other ∷ []) ∷ []) = row
 first rows = the_row

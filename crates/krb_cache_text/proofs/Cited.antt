@@ -5,5 +5,5 @@ pub use Rattle.std.specs.Prelude.{IsFalse, option_copied, ◌==◌}
 pub use Rattle.krb_text.proofs.Passing.{passed_send, passed_gather, gathers_fails, gathers_memory, gathers_prints, passed_none, gathers_write, gathered_three, gathered_then}
 pub use Rattle.krb_cache_text.specs.Listing.{credential_lines, lines_of_credentials}
 pub use Rattle.krb_wire.proofs.TextLemmas.{Left, left_fails}
-pub use Rattle.krb_cache_text.specs.Escape.{escaped_text}
-pub use Rattle.krb_text.proofs.Made.{made_refused}
+pub use Rattle.krb_text.specs.Escape.{escaped_text}
+pub use Rattle.krb_keytab_text.proofs.Made.{made_refused}

@@ -1,5 +1,4 @@
 -- The definitions that the contracts of this crate use.
-pub mod Escape
 pub mod Listing
 pub mod Reply
 pub mod Script

@@ -8,12 +8,12 @@ use Rattle.krb_ccache.specs.Store.{CacheState, PlacedCredential, store_of, place
 use Rattle.krb_ccache.specs.declared.credential.times.Times.{Times}
 use Rattle.krb_ccache.specs.Credential.{CredParts}
 use Rattle.krb_ccache.specs.Config.{ConfigParts, config_name}
-use Rattle.krb_text.specs.Listing.{fault_line}
+use Rattle.krb_text.specs.FaultLine.{fault_line}
 use Rattle.krb_text.specs.Calendar.{time_text_of}
 use Rattle.krb_text.specs.Etype.{etype_text_of}
 use Rattle.krb_text.specs.Flags.{flag_letters_of}
 use Rattle.krb_cache_text.specs.declared.columns.CcColumns.{CcColumns}
-use Rattle.krb_cache_text.specs.Escape.{escaped_text}
+use Rattle.krb_text.specs.Escape.{escaped_text}
 
 -- ---- the lines of a credential
 

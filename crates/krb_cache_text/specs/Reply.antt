@@ -5,8 +5,8 @@ use Rattle.krb_walk.specs.ReplyContent.{ReplyContent}
 use Rattle.krb_ccache.specs.declared.version.Version.{Version}
 use Rattle.krb_ccache.specs.Credential.{CredParts, credential_in}
 use Rattle.krb_ccache.specs.Config.{ConfigParts, config_name}
-use Rattle.krb_text.specs.Reply.{reply_text_by}
-use Rattle.krb_cache_text.specs.Escape.{escaped_text}
+use Rattle.krb_keytab_text.specs.Reply.{reply_text_by}
+use Rattle.krb_text.specs.Escape.{escaped_text}
 use Rattle.krb_cache_text.specs.Listing.{about}
 
 -- the end of the line of a ticket: the enctype number of its key, and its server

@@ -6,7 +6,7 @@ use Rattle.krb_ccache.specs.SetConfig.{SettingParts}
 use Rattle.krb_text.specs.declared.line_fault.LineFault.{LineFault}
 use Rattle.krb_text.specs.declared.line_fault.LineFault.TheVariants.{UnknownWord, WordCount}
 use Rattle.krb_text.specs.Word.{pieces, name_word}
-use Rattle.krb_text.specs.Script.{◌>>=◌, made, common_event}
+use Rattle.krb_keytab_text.specs.Script.{◌>>=◌, made, common_event}
 use Rattle.krb_cache_text.specs.declared.request.Request.{Request}
 use Rattle.krb_cache_text.specs.declared.request.Request.TheVariants as request
 

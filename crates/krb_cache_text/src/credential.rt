@@ -6,9 +6,8 @@ ghost use Rattle.krb_ccache.specs.Config.{config_parts};
 ghost use Rattle.krb_cache_text.specs.Listing.{valid_from, instant, validity, ticket_line, renew_line, flags_line, etype_line, ticket_lines, about, config_line, credential_lines};
 
 use crate::columns::CcColumns;
-use crate::escape::append_escaped;
 use krb_ccache::{ConfigName, CredView, config_name};
-use krb_text::{LastTime, append, append_byte, etype_text, flag_letters};
+use krb_text::{LastTime, append, append_byte, append_escaped, etype_text, flag_letters};
 use krb_wire::{NoMemory, write_name};
 use std::alloc::Allocator;
 

@@ -3,7 +3,6 @@
 
 mod columns;
 mod credential;
-mod escape;
 mod listing;
 mod record;
 mod request;

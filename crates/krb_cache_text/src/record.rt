@@ -6,9 +6,9 @@ ghost use Rattle.krb_ccache.specs.Config.{config_parts};
 ghost use Rattle.krb_cache_text.specs.Reply.{ticket_tail, config_tail, cache_record_tail};
 
 use crate::credential::append_about;
-use crate::escape::append_escaped;
 use krb_ccache::{ConfigName, CredView, Version, config_name, read_credential};
-use krb_text::{RecordFormat, append, append_byte, append_labelled};
+use krb_keytab_text::RecordFormat;
+use krb_text::{append, append_byte, append_escaped, append_labelled};
 use krb_wire::{NoMemory, write_name};
 use std::alloc::Allocator;
 use std::marker::Model;

@@ -5,7 +5,8 @@ ghost use Rattle.krb_cache_text.specs.Script.{cache_line_in};
 
 use crate::setting::{OwnedSetting, parse_setting};
 use krb_ccache::Cred;
-use krb_text::{LineFault, LineRefusal, ScriptLine, Words, common_event};
+use krb_keytab_text::{ScriptLine, common_event};
+use krb_text::{LineFault, LineRefusal, Words};
 use krb_walk::Event;
 use std::alloc::Allocator;
 

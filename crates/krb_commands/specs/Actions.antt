@@ -42,7 +42,7 @@ use Rattle.krb_ktutil.specs.KtutilTalk.{RunsKtutil}
 use Rattle.krb_driver.specs.Mistakes.{Matched, first_value, v1_order, MistakeParts, word_status, word_text}
 use Rattle.krb_driver.specs.Runs.{Run, Writes, ends_by}
 use Rattle.krb_editors.specs.Sessions.{RunsScript}
-use Rattle.krb_text.specs.Script.{event_in}
+use Rattle.krb_keytab_text.specs.Script.{event_in}
 use Rattle.krb_cache_text.specs.Script.{cache_line_in}
 
 -- a file is the one that a word names; no file if there is no word

@@ -61,8 +61,8 @@ pub enum Action<'a> {
     Help(String),
 }
 
-/// Returns the action of a line for a terminal as the output, and for one that is typed on and has the error output
-/// too: no image is printed to a terminal, and ktutil prompts for lines that are typed.
+/// Adapts an action to terminals. `shows`: the output is one, and no image is printed to it. `types`: the input and the
+/// error output are, and ktutil prompts.
 pub fn at_terminal<'a>(
     parsed: Result<Action<'a>, WordFault<'a>>,
     shows: bool,

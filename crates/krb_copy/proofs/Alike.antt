@@ -1,7 +1,7 @@
 -- Twins are alike in the same way in both directions and over three entries.
 use Rattle.krb_copy.proofs.Cited.{true, false, ◌≡◌, ◌∙◌, sym, EntryParts, are_twins, are_same, and_parts, nat_eq_equiv, on_equiv, and_equiv, nat_list_eq_equiv}
 use Rattle.std.specs.Cmp.{IsEquivalence}
-use Rattle.krb_audit.proofs.FirstNumbers.{same_equiv as names_equiv}
+use Rattle.krb_names.proofs.SameNames.{same_equiv as names_equiv}
 
 pub twins_equiv : IsEquivalence are_twins
 twins_equiv = and_equiv (on_equiv (λ (x : EntryParts). x.principal) names_equiv) (and_equiv (on_equiv (λ (x : EntryParts). x.version) nat_eq_equiv) (on_equiv (λ (x : EntryParts). x.enctype) nat_eq_equiv))

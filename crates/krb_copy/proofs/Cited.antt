@@ -9,17 +9,17 @@ pub use Rattle.std.specs.Prelude.{map, ◌||◌, filter, ◌==◌, ◌&&◌, not
 pub use Rattle.std.specs.Str.{bytes_eq}
 pub use Rattle.krb_copy.specs.Classes.{ClassKey, AreClasses, class_cmp, IsClassKey, kind_of, has_among, emptiness, step_at, HaveClass, places_of, stays, has_key, IsClass}
 pub use Rattle.krb_copy.specs.Copying.{run_over, as_found, asked_as, renamed, step_of, Copy, Held, run_start, Clash, Run, There, with_copy, run_after, go_on, has_lines, run_added, as_copied, Step, twins, step_among, is_kept, copied_lines, clash_line}
-pub use Rattle.krb_copy.specs.Laws.{IsInPlace, AllStay, OthersStay, changes_of, Has, NothingElse, GoesByItsEntries, AreEntries, ChangesAreTold, SecondDoesNothing, changes_over, AreHistories, HasEachAsked}
+pub use Rattle.krb_copy.specs.Laws.{IsInPlace, AllStay, OthersStay, changes_of, Has, NothingElse, GoesByItsEntries, AreEntries, ChangesAreReported, SecondDoesNothing, changes_over, AreHistories, HasEachAsked}
 pub use Rattle.krb_copy.specs.Made.{IsRun, IsMade, name_in, IsRefusal, IsRefusedBy, EndsBy, Meets, Ends}
 pub use Rattle.krb_copy.specs.Texts.{name_texts, AreNames, AreTexts, asked_texts, entry_texts}
-pub use Rattle.krb_audit.specs.Twins.{are_twins, are_same}
+pub use Rattle.krb_names.specs.Twins.{are_twins, are_same}
 pub use Rattle.krb_keytab.proofs.AfterChanges.{put_gives, cut_gives, added_reads, removed_none}
 pub use Rattle.krb_keytab.proofs.StoreChanges.{removal_cuts, addition_puts, cuts_ran}
 pub use Rattle.krb_keytab.specs.Changes.{without, put_result, cut_result, with_hole}
 pub use Rattle.krb_keytab.specs.Entry.{EntryParts, entry_at}
 pub use Rattle.krb_keytab.specs.Find.{PlacedEntry, placed_entries}
 pub use Rattle.krb_keytab.specs.Store.{KeytabState, entry_at_place, store_of, store_cell, InMemory}
-pub use Rattle.krb_text.specs.Listing.{removed_line, placed_line}
+pub use Rattle.krb_keytab_text.specs.Listing.{removed_line, placed_line}
 pub use Rattle.krb_walk.specs.Events.{cut_store, SessionState, after, put_store}
 pub use Rattle.krb_walk.specs.declared.refusal.Code.{Code}
 pub use Rattle.krb_wire.proofs.Fields.{some_is, ok_is}
@@ -34,7 +34,7 @@ pub use Rattle.krb_copy.specs.DiffRows.{IsNumbering, shown, first_place, row_lin
 pub use Rattle.std.proofs.lemmas.Slice.Eq.{bytes_eq-Decides}
 pub use Rattle.krb_names.proofs.NameOrder.{names_tie}
 pub use Rattle.std.proofs.lemmas.Cmp.{nat_list_eq_equiv, nat_eq_equiv, on_equiv, and_equiv}
-pub use Rattle.krb_copy.specs.DiffLaws.{TellsNothing, AreMirrored, NoDifference, swapped}
+pub use Rattle.krb_copy.specs.DiffLaws.{ReportsNothing, AreMirrored, NoDifference, swapped}
 pub use Rattle.krb_text.proofs.Found.{any_of_map}
 pub use Rattle.krb_copy.specs.declared.numbering.Row.{Row}
 pub use Rattle.std.proofs.Math.Bool.{and-false, or_comm, or-false, not-and_self, or_assoc, or-true}

@@ -84,7 +84,7 @@ of_more before held h key old new c places keys key_is same goes = record {
   kept = same ∙ c.kept ∙ sym (list_any-append (is_kept before) held (h ∷ []) ∙ ap (λ (b : Bool). list_any (is_kept before) held || (b || false)) goes ∙ or-false (list_any (is_kept before) held));
 }
 
--- of the same entries, of which one stays iff one stayed before
+-- of the same entries, and one stays iff one stayed before
 unchanged : {A : Type 0} (before before' : List EntryParts) (held held' : List Held) (o : Option (Class A)) → held' ≡ held → list_any (is_kept before') held ≡ list_any (is_kept before) held → HaveClass before held o → HaveClass before' held' o
 unchanged before before' held held' None same same_kept none = same ∙ none
 unchanged before before' held held' (Some c) same same_kept is = record {

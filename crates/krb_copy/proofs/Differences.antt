@@ -5,7 +5,7 @@ use Rattle.std.proofs.lemmas.List.Sorted.{IsPermutation-append_comm, IsPermutati
 use Rattle.krb_copy.specs.Diff.{Difference, Both, Ours, Theirs, diff_text, difference_at, difference_by, difference_line, differences, firsts, has_more_keys, has_twin}
 use Rattle.krb_copy.proofs.Passing.{any_found}
 use Rattle.krb_copy.proofs.Alike.{twins_equiv, alike, same_are_twins}
-use Rattle.krb_copy.proofs.Silent.{HasAll, told_nothing, tells_nothing}
+use Rattle.krb_copy.proofs.Silent.{HasAll, reported_nothing, reports_nothing}
 
 -- ---- the order of the entries
 
@@ -210,6 +210,6 @@ pub no_difference_law : NoDifference
 no_difference_law replace j k =
     let ours = placed_entries j in
     let others = placed_entries k in (
-      λ none. let has = no_difference ours others none in (tells_nothing replace ours k has.0, tells_nothing replace others j has.1),
-      λ told. no_text ours others (told_nothing replace ours k told.0) (told_nothing replace others j told.1),
+      λ none. let has = no_difference ours others none in (reports_nothing replace ours k has.0, reports_nothing replace others j has.1),
+      λ silent. no_text ours others (reported_nothing replace ours k silent.0) (reported_nothing replace others j silent.1),
     )

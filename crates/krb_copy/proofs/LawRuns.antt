@@ -1,5 +1,5 @@
 -- What a run over all entries asked for does to the entries of its keytab.
-use Rattle.krb_copy.proofs.Cited.{⊤, ◌≡◌, ℕ, Bool, true, false, List, [], ◌∷◌, ◌++◌, Some, Ok, refl, sym, ap, subst, ◌∙◌, append_assoc, map, ◌||◌, AllByRecursion, list_any, flat_map, append-nil, removed_line, EntryParts, PlacedEntry, placed_entries, KeytabState, entry_at_place, are_twins, are_same, Held, Run, Step, as_found, step_of, with_copy, run_after, go_on, run_over, run_start, copy_run, has_lines, Has, AreEntries, IsInPlace, HasEachAsked, SecondDoesNothing, OthersStay, ChangesAreTold, both_ways, recursion_from_All, IsEntry, all_join, any_of_map}
+use Rattle.krb_copy.proofs.Cited.{⊤, ◌≡◌, ℕ, Bool, true, false, List, [], ◌∷◌, ◌++◌, Some, Ok, refl, sym, ap, subst, ◌∙◌, append_assoc, map, ◌||◌, AllByRecursion, list_any, flat_map, append-nil, removed_line, EntryParts, PlacedEntry, placed_entries, KeytabState, entry_at_place, are_twins, are_same, Held, Run, Step, as_found, step_of, with_copy, run_after, go_on, run_over, run_start, copy_run, has_lines, Has, AreEntries, IsInPlace, HasEachAsked, SecondDoesNothing, OthersStay, ChangesAreReported, both_ways, recursion_from_All, IsEntry, all_join, any_of_map}
 use Rattle.krb_copy.proofs.Alike.{same_equiv}
 use Rattle.krb_copy.proofs.Elsewhere.{any_entry}
 use Rattle.krb_copy.proofs.RunSteps.{after_step, kept_over, over_all}
@@ -83,7 +83,7 @@ others_stay replace asked k run fits ran place e read others =
     (copy_there run.keytab run.held x.1 places given fits.0 is.0 are put, stays_after run.keytab run.held x.1 places given place e is.0 are put is.1 fits.1))
     asked (run_start k) run ran (others_fit e asked fits others) (start_there k, read)).1
 
--- ---- what is told
+-- ---- what is reported
 
 -- of these entries, each is held
 abbrev pub AreSilent : Run → Run → Type 0
@@ -101,6 +101,6 @@ silent replace asked k final ran = kept_over replace (λ x. ⊤) (AreSilent (run
     (λ x run places given fits is e put none. absurd (not_nil (run.text ++ flat_map (λ p. removed_line (p, x.1)) places) _ _ (append_assoc run.text (flat_map (λ p. removed_line (p, x.1)) places) _ ∙ none)))
     asked (run_start k) final ran (recursion_from_All (λ x. ⊤) asked (λ i d lt. tt)) (λ none. (refl, refl, refl, tt))
 
-pub changes_are_told : ChangesAreTold
+pub changes_are_reported : ChangesAreReported
 unfolding copy_run
-changes_are_told replace asked k run e none = (silent replace asked k run e none).0
+changes_are_reported replace asked k run e none = (silent replace asked k run e none).0

@@ -1,5 +1,5 @@
--- A run tells nothing iff its keytab has each entry asked for.
-use Rattle.krb_copy.proofs.Cited.{◌≡◌, Bool, true, List, [], ◌∷◌, sym, subst, ◌∙◌, map, list_any, AllByRecursion, PlacedEntry, placed_entries, KeytabState, are_same, as_found, run_start, copy_run, TellsNothing, any_of_map}
+-- A run reports nothing iff its keytab has each entry asked for.
+use Rattle.krb_copy.proofs.Cited.{◌≡◌, Bool, true, List, [], ◌∷◌, sym, subst, ◌∙◌, map, list_any, AllByRecursion, PlacedEntry, placed_entries, KeytabState, are_same, as_found, run_start, copy_run, ReportsNothing, any_of_map}
 use Rattle.krb_copy.proofs.LawLemmas.{IsHeld}
 use Rattle.krb_copy.proofs.LawRuns.{all_before, bare, second_over, silent}
 
@@ -15,12 +15,12 @@ to_held : (ys xs : List PlacedEntry) → HasAll ys xs → AllByRecursion (λ z. 
 to_held ys [] has = tt
 to_held ys (x ∷ xs) has = (any_of_map (λ h. are_same x.1 h.entry) as_found ys ∙ has.0, to_held ys xs has.1)
 
-pub told_nothing : (replace : Bool) (asked : List PlacedEntry) (k : KeytabState) → TellsNothing replace asked k → HasAll (placed_entries k) asked
+pub reported_nothing : (replace : Bool) (asked : List PlacedEntry) (k : KeytabState) → ReportsNothing replace asked k → HasAll (placed_entries k) asked
 unfolding copy_run
-told_nothing replace asked k t =
+reported_nothing replace asked k t =
     let s = silent replace asked k t.0 t.1 t.2 in
     from_held (placed_entries k) asked (subst (AllByRecursion (IsHeld (run_start k).held)) (all_before replace asked (run_start k) t.0 t.1 s.1) s.3)
 
-pub tells_nothing : (replace : Bool) (asked : List PlacedEntry) (k : KeytabState) → HasAll (placed_entries k) asked → TellsNothing replace asked k
+pub reports_nothing : (replace : Bool) (asked : List PlacedEntry) (k : KeytabState) → HasAll (placed_entries k) asked → ReportsNothing replace asked k
 unfolding copy_run
-tells_nothing replace asked k has = let r = second_over replace asked (run_start k) (to_held (placed_entries k) asked has) in (r.0, r.1, r.3)
+reports_nothing replace asked k has = let r = second_over replace asked (run_start k) (to_held (placed_entries k) asked has) in (r.0, r.1, r.3)

@@ -45,7 +45,7 @@ stays (Found place key) = false
 stays (Kept place key) = true
 stays (More many) = many.value.stays
 
--- it is that of these entries: their places, their keys, and whether one stays
+-- `class` has the places and the keys of `held`, and whether one stays
 pub record IsClass {A : Type 0} (before : List EntryParts) (held : List Held) (class : Class A) : Type 0 where
   pub places : places_of class ≡ map (λ h. h.place) held
   pub keys : (key : List ℕ) → has_key class key ≡ list_any (λ h. bytes_eq key h.entry.key) held

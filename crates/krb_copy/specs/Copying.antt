@@ -8,8 +8,8 @@ use Rattle.krb_keytab.specs.Entry.{EntryParts}
 use Rattle.krb_keytab.specs.Find.{PlacedEntry, placed_entries}
 use Rattle.krb_keytab.specs.Store.{KeytabState}
 use Rattle.krb_keytab.specs.Changes.{put_result, without}
-use Rattle.krb_text.specs.Listing.{placed_line, removed_line}
-use Rattle.krb_audit.specs.Twins.{are_twins, are_same}
+use Rattle.krb_keytab_text.specs.Listing.{placed_line, removed_line}
+use Rattle.krb_names.specs.Twins.{are_twins, are_same}
 
 -- ---- what is asked for
 

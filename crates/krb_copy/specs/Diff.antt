@@ -3,8 +3,8 @@ use Rattle.std.specs.Prelude.{ℕ, List, [], ◌∷◌, ◌++◌, Bool, ◌&&◌
 use Rattle.std.specs.List.{flat_map, filter_map, list_any}
 use Rattle.krb_keytab.specs.Entry.{EntryParts}
 use Rattle.krb_keytab.specs.Find.{PlacedEntry}
-use Rattle.krb_text.specs.Listing.{placed_line}
-use Rattle.krb_audit.specs.Twins.{are_twins, are_same}
+use Rattle.krb_keytab_text.specs.Listing.{placed_line}
+use Rattle.krb_names.specs.Twins.{are_twins, are_same}
 
 -- a list has a twin of an entry
 abbrev pub has_twin : EntryParts → List PlacedEntry → Bool

@@ -6,13 +6,13 @@ use Rattle.krb_keytab.specs.Store.{KeytabState}
 use Rattle.krb_copy.specs.Copying.{Run, copy_run}
 use Rattle.krb_copy.specs.Diff.{Difference, Both, Ours, Theirs, diff_text, differences}
 
--- a run of copying these into a keytab tells nothing
-abbrev pub TellsNothing : Bool → List PlacedEntry → KeytabState → Type 0
-TellsNothing replace asked k = (run : Run) × (copy_run replace asked k ≡ Ok run) × (run.text ≡ [])
+-- a run that copies `asked` into a keytab reports nothing
+abbrev pub ReportsNothing : Bool → List PlacedEntry → KeytabState → Type 0
+ReportsNothing replace asked k = (run : Run) × (copy_run replace asked k ≡ Ok run) × (run.text ≡ [])
 
--- two keytabs have the same keys iff copying each into the other tells nothing
+-- two keytabs have the same keys iff copying each into the other reports nothing
 abbrev pub NoDifference : Type 0
-NoDifference = (replace : Bool) (j k : KeytabState) → (diff_text (placed_entries j) (placed_entries k) ≡ []) ↔ (TellsNothing replace (placed_entries j) k × TellsNothing replace (placed_entries k) j)
+NoDifference = (replace : Bool) (j k : KeytabState) → (diff_text (placed_entries j) (placed_entries k) ≡ []) ↔ (ReportsNothing replace (placed_entries j) k × ReportsNothing replace (placed_entries k) j)
 
 -- a difference the other way round
 abbrev pub swapped : Difference → Difference

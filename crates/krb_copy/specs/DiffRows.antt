@@ -10,8 +10,8 @@ use Rattle.std.specs.BTreeSet.{contains_by}
 use denote.Ref.{Bor}
 use Rattle.krb_keytab.specs.Entry.{EntryParts}
 use Rattle.krb_keytab.specs.Find.{PlacedEntry}
-use Rattle.krb_text.specs.Listing.{placed_line}
-use Rattle.krb_audit.specs.Twins.{are_twins}
+use Rattle.krb_keytab_text.specs.Listing.{placed_line}
+use Rattle.krb_names.specs.Twins.{are_twins}
 use Rattle.krb_copy.specs.Classes.{ClassKey, IsClassKey, class_cmp}
 use Rattle.krb_copy.specs.Diff.{has_twin}
 use Rattle.krb_copy.specs.Texts.{AreTexts, name_texts}

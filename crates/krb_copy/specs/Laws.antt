@@ -10,7 +10,7 @@ use Rattle.krb_keytab.specs.Find.{PlacedEntry, placed_entries}
 use Rattle.krb_keytab.specs.Form.{IsEntry}
 use Rattle.krb_keytab.specs.Rewrite.{keytab_rules}
 use Rattle.krb_keytab.specs.Store.{KeytabState, entry_at_place}
-use Rattle.krb_audit.specs.Twins.{are_twins, are_same}
+use Rattle.krb_names.specs.Twins.{are_twins, are_same}
 use Rattle.krb_copy.specs.Copying.{Held, Run, Step, There, Clash, Copy, copy_run, has_lines, run_after, run_start, step_of}
 
 -- the keytab has an entry with name, version, enctype and key of this one
@@ -25,7 +25,7 @@ AreEntries asked = AllByRecursion (λ x. IsEntry x.1) asked
 abbrev pub HasEachAsked : Type 0
 HasEachAsked = (replace : Bool) (asked : List PlacedEntry) (k : KeytabState) (run : Run) → AreEntries asked → copy_run replace asked k ≡ Ok run → (has_lines run.clashes) ≡ false → AllByRecursion (λ x. Has run.keytab x.1) asked
 
--- a run of the same entries after it tells nothing and changes nothing
+-- a second run of the same entries reports nothing and changes nothing
 abbrev pub SecondDoesNothing : Type 0
 SecondDoesNothing = (replace again : Bool) (asked : List PlacedEntry) (k : KeytabState) (run : Run) → AreEntries asked → copy_run replace asked k ≡ Ok run → (has_lines run.clashes) ≡ false
     → (second : Run) × (copy_run again asked run.keytab ≡ Ok second) × (second.keytab ≡ run.keytab) × (second.text ≡ []) × ((has_lines second.clashes) ≡ false)
@@ -35,9 +35,9 @@ abbrev pub OthersStay : Type 0
 OthersStay = (replace : Bool) (asked : List PlacedEntry) (k : KeytabState) (run : Run) → AreEntries asked → copy_run replace asked k ≡ Ok run
     → (place : ℕ) (e : EntryParts) → entry_at_place k place ≡ Some e → AllByRecursion (λ x. are_twins x.1 e ≡ false) asked → entry_at_place run.keytab place ≡ Some e
 
--- a run that tells nothing has changed nothing
-abbrev pub ChangesAreTold : Type 0
-ChangesAreTold = (replace : Bool) (asked : List PlacedEntry) (k : KeytabState) (run : Run) → copy_run replace asked k ≡ Ok run → run.text ≡ [] → run.keytab ≡ k
+-- a run that reports nothing has changed nothing
+abbrev pub ChangesAreReported : Type 0
+ChangesAreReported = (replace : Bool) (asked : List PlacedEntry) (k : KeytabState) (run : Run) → copy_run replace asked k ≡ Ok run → run.text ≡ [] → run.keytab ≡ k
 
 -- without replacing, each entry stays where it is
 abbrev pub AllStay : Type 0
@@ -69,7 +69,7 @@ AreHistories = (replace : Bool) (asked : List PlacedEntry) (k : KeytabState) (ru
 abbrev pub IsInPlace : KeytabState → Held → Type 0
 IsInPlace k h = (e : EntryParts) × (entry_at_place k h.place ≡ Some e) × (are_same h.entry e ≡ true)
 
--- the entries that a run goes by are those of its keytab: each is there, and there is no other
+-- `held` lists just the keytab's entries, at their places
 abbrev pub GoesByItsEntries : Type 0
 GoesByItsEntries = (replace : Bool) (asked : List PlacedEntry) (k : KeytabState) (run : Run) → AreEntries asked → copy_run replace asked k ≡ Ok run
     → AllByRecursion (IsInPlace run.keytab) run.held × ((place : ℕ) (e : EntryParts) → entry_at_place run.keytab place ≡ Some e → list_any (λ h. h.place == place) run.held ≡ true)

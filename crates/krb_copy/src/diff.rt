@@ -4,7 +4,7 @@ ghost use Rattle.std.specs.Prelude.{◌≡◌, ◌∷◌, ◌++◌, ◌||◌, �
 ghost use Rattle.std.specs.Prelude.{codes, fold, get_or, if◌then◌else◌, map, slice_set, true};
 ghost use Rattle.std.specs.List.{All, flat_map};
 ghost use Rattle.krb_keytab.specs.Find.{PlacedEntry};
-ghost use Rattle.krb_text.specs.Listing.{placed_line};
+ghost use Rattle.krb_keytab_text.specs.Listing.{placed_line};
 ghost use Rattle.krb_copy.specs.Diff.{diff_text};
 ghost use Rattle.krb_copy.specs.DiffRows.{AreKeys, first_place, has_key, lacks, marked, row_line, rows_due, shown};
 ghost use Rattle.krb_copy.specs.Texts.{AreTexts, name_texts};
@@ -12,7 +12,8 @@ ghost use Rattle.krb_copy.specs.Texts.{AreTexts, name_texts};
 use crate::numbering::{Numbering, Row};
 use crate::texts::Texts;
 use krb_keytab::EntryView;
-use krb_text::{append_labelled, append_placed};
+use krb_keytab_text::append_placed;
+use krb_text::append_labelled;
 use krb_wire::NoMemory;
 use std::alloc::Allocator;
 use std::collections::BTreeSet;
@@ -259,9 +260,8 @@ fn diff_by<'t, A: Allocator + Copy>(
     text_of(alloc, numbering.count() as usize, &our_rows, &other_rows)
 }
 
-/// Returns the lines of what two lists of entries do not share: for each name, kvno and enctype at most one. `-` begins
-/// that of one that ours alone have, `!` that of one that both have, though not with the same keys, and `+` that of one
-/// that the others alone have; the lines are in the order of first entries. Takes time n log n in the bytes of both.
+/// Returns a line for each name, kvno and enctype whose keys differ, in the order of first entries: `-` if ours alone
+/// have it, `+` if the others alone do, `!` if both do, with other keys. Takes time n log n in the bytes of both.
 pub fn diff_text<A: Allocator + Copy>(
     alloc: A,
     ours: &[(u32, EntryView<'_>)],

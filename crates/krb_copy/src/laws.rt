@@ -1,7 +1,7 @@
 //! Laws of the definitions that the contracts cite.
 
 ghost use Rattle.krb_copy.specs.DiffLaws.{AreMirrored, NoDifference};
-ghost use Rattle.krb_copy.specs.Laws.{AllStay, AreHistories, ChangesAreTold, GoesByItsEntries, HasEachAsked, NothingElse, OthersStay, SecondDoesNothing};
+ghost use Rattle.krb_copy.specs.Laws.{AllStay, AreHistories, ChangesAreReported, GoesByItsEntries, HasEachAsked, NothingElse, OthersStay, SecondDoesNothing};
 
 /// After a run in which no entry clashes, the keytab has each entry asked for, with its key, and a second run does
 /// nothing.
@@ -17,11 +17,11 @@ pub fn others_stay()
 {}
 
 /// A run is the history of its removals and additions, and goes by the entries that its keytab has by then. One that
-/// tells nothing has changed nothing.
+/// reports nothing has changed nothing.
 pub fn runs_are_histories()
     ensures history { AreHistories }
     ensures entries { GoesByItsEntries }
-    ensures told { ChangesAreTold }
+    ensures reported { ChangesAreReported }
 {}
 
 /// After a run the keytab has no entry but those that it had before and those asked for.
@@ -29,7 +29,7 @@ pub fn nothing_else_is_there()
     ensures { NothingElse }
 {}
 
-/// Two keytabs have the same keys iff copying each into the other tells nothing.
+/// Two keytabs have the same keys iff copying each into the other reports nothing.
 pub fn same_keys_copy_nothing()
     ensures { NoDifference }
 {}

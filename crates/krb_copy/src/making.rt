@@ -2,7 +2,7 @@
 
 ghost use Rattle.std.specs.Prelude.{◌≡◌, ◌++◌, ◌∷◌, [], OnOk, IfOk, IfErr};
 ghost use Rattle.std.specs.List.{flat_map};
-ghost use Rattle.krb_text.specs.Listing.{placed_line, removed_line};
+ghost use Rattle.krb_keytab_text.specs.Listing.{placed_line, removed_line};
 ghost use Rattle.krb_keytab.specs.Changes.{put_result, without};
 ghost use Rattle.krb_copy.specs.Copying.{clash_line, copied_lines};
 ghost use Rattle.krb_copy.specs.Made.{IsRefusal};

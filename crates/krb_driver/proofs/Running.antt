@@ -14,7 +14,7 @@ module _ (out out' : Watch) (ending : Ending) (spent : ending ≡ Err error.NoMe
   due-spent true is due shows = absurd (false≢true (ap is_spent (sym (shows.failed (sym is)) ∙ spent)))
   due-spent false is due shows = sym ((shows.done (sym is)).1) ∙ spent
 
-  -- only a page that takes memory, or tells that it ran out, ends out of memory
+  -- only a page that takes memory, or reports that it ran out, ends out of memory
   page-takes : (page : Page) → ShowsPage out out' ending page → IsTrue (page.takes || is_spent page.ending)
   page-takes page (inl shows) = or_right page.takes (is_spent page.ending) (ap is_spent (due-spent out'.failed refl (record { out = page.out; ending = page.ending }) shows))
   page-takes page (inr breaks) = or_left page.takes (is_spent page.ending) breaks.0
@@ -47,16 +47,16 @@ module _ {F O : Type 0} (trait : Ghosts F) (outcomes : Faults O) (due : Effect) 
   abbrev IsUnread : Effect → Type 0
   IsUnread effect = CountsFailure (trait.failure_count old) (trait.failure_count between) × IsTrue (is_unread (ending_of effect))
 
-  keeps-told : (effect left : Effect) → new ≡ between → left ≡ effect → IsUnread effect → Keeps trait due old new left
-  keeps-told effect left same is unread = inr (inl (
+  keeps-reported : (effect left : Effect) → new ≡ between → left ≡ effect → IsUnread effect → Keeps trait due old new left
+  keeps-reported effect left same is unread = inr (inl (
     subst (λ (x : F). CountsFailure (trait.failure_count old) (trait.failure_count x)) (sym same) unread.0,
     (same-then same, inl (ap (λ (e : Effect). is_unread (ending_of e)) is ∙ unread.1)),
   ))
 
-  -- a file was not read, and the effect tells that
+  -- a file was not read, and the effect reports that
   keeps-unread : (effect left : Effect) → Settles trait between effect new left → IsUnread effect → Keeps trait due old new left
-  keeps-unread (Fails file why) left s unread = keeps-told (Fails file why) left s.0 s.1 unread
-  keeps-unread (Displays file page) left s unread = keeps-told (Displays file page) left s.0 s.1 unread
+  keeps-unread (Fails file why) left s unread = keeps-reported (Fails file why) left s.0 s.1 unread
+  keeps-unread (Displays file page) left s unread = keeps-reported (Displays file page) left s.0 s.1 unread
   keeps-unread (Saves file bytes text verdict) left s unread = absurd (false≢true unread.1)
 
   keeps-saved : (file bytes text : List ℕ) (verdict : Verdict) (answer : Result (Unit {0}) SaveFault) (left : Effect) → Saves file bytes text verdict ≡ due → SavesFile trait between file bytes answer new
@@ -111,15 +111,15 @@ module _ {F O : Type 0} (trait : Ghosts F) (outcomes : Faults O) (line : Option 
 
 -- ---- a file that was not read
 
-told-as : (name : List ℕ) (effect : Effect) (is : Bool) → is_unread (ending_of effect) ≡ is → IsTrue (is_unread (ending_of (if is then effect else Fails name error.FileNotRead)))
-told-as name effect true e = e
-told-as name effect false e = refl
+unread-as : (name : List ℕ) (effect : Effect) (is : Bool) → is_unread (ending_of effect) ≡ is → IsTrue (is_unread (ending_of (if is then effect else Fails name error.FileNotRead)))
+unread-as name effect true e = e
+unread-as name effect false e = refl
 
--- the effect tells that it was not read
-if_unread-tells : (name : List ℕ) (plan : CommandPlan) → IsTrue (is_unread (ending_of (if_unread name plan)))
-if_unread-tells name (Ends effect) = told-as name effect (is_unread (ending_of effect)) refl
-if_unread-tells name (Holds held other plan) = refl
-if_unread-tells name (Loads other then_) = refl
+-- the effect reports that the file was not read
+if_unread-reports : (name : List ℕ) (plan : CommandPlan) → IsTrue (is_unread (ending_of (if_unread name plan)))
+if_unread-reports name (Ends effect) = unread-as name effect (is_unread (ending_of effect)) refl
+if_unread-reports name (Holds held other plan) = refl
+if_unread-reports name (Loads other then_) = refl
 
 effect_by-none : (plan : CommandPlan) → effect_by plan [] ≡ by faults plan []
 effect_by-none (Ends effect) = refl
@@ -127,14 +127,14 @@ effect_by-none (Holds held name plan) = effect_by-none plan
 effect_by-none (Loads name then_) = refl
 
 module _ {F : Type 0} (trait : Ghosts F) where
-  -- an effect is what `by` has; or a file was not read, counted, and the effect tells that
+  -- an effect is what `by` has; or a file was not read, counted, and the effect reports that
   abbrev IsBy : CommandPlan → List Answer → F → F → Type 0
   IsBy plan answers old new = (effect_by plan answers ≡ by faults plan answers) ⊎ (CountsFailure (trait.failure_count old) (trait.failure_count new) × IsTrue (is_unread (ending_of (effect_by plan answers))))
 
   later : (plan : CommandPlan) (answers : List Answer) (old between new : F) → Loaded trait plan between answers new → trait.failure_count old ≤ trait.failure_count between → IsBy plan answers between new → IsBy plan answers old new
   later plan answers old between new l le (inl is) = inl is
-  later plan answers old between new l le (inr told) =
-      inr (count-trans (trait.failure_count old) (trait.failure_count between) (trait.failure_count new) le (loaded-lasts trait faults plan between answers new l).count told.0, told.1)
+  later plan answers old between new l le (inr unread) =
+      inr (count-trans (trait.failure_count old) (trait.failure_count between) (trait.failure_count new) le (loaded-lasts trait faults plan between answers new l).count unread.0, unread.1)
 
   is-by : (plan : CommandPlan) (old : F) (answers : List Answer) (new : F) → Loaded trait plan old answers new → IsBy plan answers old new
   is-by (Ends effect) old answers new l = inl refl
@@ -143,7 +143,7 @@ module _ {F : Type 0} (trait : Ghosts F) where
   is-by (Loads name then_) old [] new l = inl refl
   is-by (Loads name then_) old (Err load.Failed ∷ answers) new l = inr (
     count-more (trait.failure_count old) (trait.failure_count l.0) (trait.failure_count new) (loaded-lasts trait faults (then_ (Err load.Failed)) l.0 answers new l.1.1).count (l.1.0.failed refl),
-    if_unread-tells name (then_ (Err load.Failed)),
+    if_unread-reports name (then_ (Err load.Failed)),
   )
   is-by (Loads name then_) old (Err load.NoMemory ∷ answers) new l = inl refl
   is-by (Loads name then_) old (answer ∷ answers) new l = later (then_ answer) answers old l.0 new l.1.1 l.1.0.count (is-by (then_ answer) l.0 answers new l.1.1)
@@ -174,8 +174,8 @@ module _ {F R W E : Type 0} (trait : Ghosts F) (plan : Option ℕ → CommandPla
         | inl spent ↦ finished (inr (inr spent))
         | inr is ↦ elim (is-by trait (plan (trait.mode made)) old.files makes.makes.answers made makes.makes.loads) [
           | inl same ↦ finished (is-due h (is ∙ same))
-          | inr told ↦ keeps-left trait due old.files f.done new.files f.left f.released
-              (keeps-unread trait faults due old.files made f.done h lasts effect f.left f.settles (told.0, ap (λ (e : Effect). is_unread (ending_of e)) is ∙ told.1))
+          | inr unread ↦ keeps-left trait due old.files f.done new.files f.left f.released
+              (keeps-unread trait faults due old.files made f.done h lasts effect f.left f.settles (unread.0, ap (λ (e : Effect). is_unread (ending_of e)) is ∙ unread.1))
         ]
       ]
 

@@ -40,7 +40,7 @@ ReportsEnd-nothing file line details err none = record {
   still = refl;
 }
 
--- the exit status of a run whose save left nothing behind that is to be told
+-- the exit status of a run whose save left nothing behind to report
 pub end_status-none : (ending : Ending) (aftermath : Option Aftermath) → aftermath ≡ None → ending_status ending ≡ end_status ending aftermath
 end_status-none ending aftermath none =
     let n = ending_status ending in

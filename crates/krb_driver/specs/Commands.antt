@@ -37,7 +37,7 @@ abbrev pub goes_on : {X : Type 0} → FileName → Result X RunError → (X → 
 goes_on file (Ok x) then_ fails = then_ x
 goes_on file (Err why) then_ fails = fails (error_of_name file.source why)
 
--- a file is loaded and opened, and the command goes on with what it gave, or with the error; if its name is of another type, there is none
+-- a file is loaded and opened, and the command goes on with the keytab or cache, or with the error; a name of another type is an error and is not loaded
 abbrev pub tries : {X : Type 0} → FileName → (Answer → Result X RunError) → (X → CommandPlan) → (RunError → CommandPlan) → CommandPlan
 tries file gives then_ fails =
     if file.is_other_type then fails (error.OtherType file.kind file.source) else Loads file.name.now (λ answer. goes_on file (gives answer) then_ fails)
@@ -56,12 +56,12 @@ holds held file plan = Holds (can_hold held file) file.name.now plan
 
 -- ---- what is made of the files
 
--- the effect if the file of that name was not read and the plan goes on so: its end if that tells it, or else the error
+-- the effect if the file of that name was not read and the plan goes on so: its end if that reports it, or else the error
 abbrev pub if_unread : List ℕ → CommandPlan → Effect
 if_unread name (Ends effect) = if is_unread (ending_of effect) then effect else Fails name error.FileNotRead
 if_unread name plan = Fails name error.FileNotRead
 
--- the effect of a plan by the results of its loads: as `by` has it, but that the plan may tell of a failed load
+-- the effect of a plan by the results of its loads: as `by` has it, but that the plan may report a failed load
 abbrev pub effect_by : CommandPlan → List Answer → Effect
 effect_by (Ends effect) answers = effect
 effect_by (Holds held name plan) answers = effect_by plan answers
@@ -118,7 +118,7 @@ module _ {F : Type 0} (trait : Ghosts F) (old : F) where
     pub fair : IsSpent effect ⊎ Fairly makes.answers
 
 module _ {F : Type 0} (trait : Ghosts F) (old : F) where
-  -- a file was tried: what is made of what it gave, or of the error, is what the plan that tries it makes
+  -- a file was tried: whatever the rest of the plan makes after it, `tries` makes as a whole
   abbrev pub Tries : {X : Type 0} → FileName → (Answer → Result X RunError) → Result X RunError → F → Type 0
   Tries {X = X} file gives (Ok x) new = (then_ : X → CommandPlan) (fails : RunError → CommandPlan) (effect : Effect) (end : F) → EndsAfter file fails → Makes trait new (then_ x) effect end → Makes trait old (tries file gives then_ fails) effect end
   Tries {X = X} file gives (Err why) new = (then_ : X → CommandPlan) (fails : RunError → CommandPlan) (effect : Effect) (end : F) → EndsAfter file fails → Makes trait new (fails why) effect end → Makes trait old (tries file gives then_ fails) effect end
@@ -159,15 +159,15 @@ ShowsEnd out out' ending (Fails file why) = Shows (ends_by why) out out' ending
 ShowsEnd out out' ending (Displays file page) = ShowsPage out out' ending page
 ShowsEnd out out' ending (Saves file bytes out_ verdict) = ⊥
 
--- an effect shows a page that takes memory, or tells that it ran out
+-- an effect shows a page that takes memory, or reports that it ran out
 abbrev pub Takes : Effect → Type 0
 Takes (Displays file page) = IsTrue (page.takes || is_spent page.ending)
 Takes effect = ⊥
 
--- what is told of a save: what it left behind, if it is the run's own; and of a line of ktutil only if memory did not run out
-abbrev pub told_of : Option ℕ → Effect → Ending → Option Aftermath → Option Aftermath
-told_of None effect ending left = if is_save effect then left else None
-told_of (Some number) effect ending left = if is_save effect && not (is_spent ending) then left else None
+-- what is reported of a save: what it left behind, if it is the run's own; and of a line of ktutil only if memory did not run out
+abbrev pub reported_aftermath : Option ℕ → Effect → Ending → Option Aftermath → Option Aftermath
+reported_aftermath None effect ending left = if is_save effect then left else None
+reported_aftermath (Some number) effect ending left = if is_save effect && not (is_spent ending) then left else None
 
 -- an effect was done, at the end of a run or of that line of ktutil: what was to be saved was saved or its save failed, what was held was released, what was left to show was shown, and the end was reported
 pub record Finishes {F : Type 0} (trait : Ghosts F) (line : Option ℕ) (effect : Effect) (old new : F) (out out' : Watch) (err err' : ErrorWatch) (end : RunEnd) : Type 0 where
@@ -178,7 +178,7 @@ pub record Finishes {F : Type 0} (trait : Ghosts F) (line : Option ℕ) (effect 
   pub shown : ShowsEnd out out' end.ending left
   pub details : Details
   pub reported : Reports (about left) line details end.ending err err' end.status
-  pub told : details.aftermath ≡ told_of line effect end.ending (trait.aftermath new)
+  pub left_behind : details.aftermath ≡ reported_aftermath line effect end.ending (trait.aftermath new)
 
 module _ {F R W E : Type 0} (trait : Ghosts F) (plan : Option ℕ → CommandPlan) (Fairly : List Answer → Type 0) (old new : World F R W E) where
   -- a run of a command that ended so: its plan is that for the mode of the file that was loaded last; what it saves and prints and how it ends is a function of its calls' results
@@ -207,7 +207,7 @@ module _ {F R W E : Type 0} (trait : Ghosts F) (old new : World F R W E) (status
   abbrev pub Prints : Run → Type 0
   Prints due = (new ≡ record old { out = new.out; err = new.err }) × EndsRun [] None due old.out new.out old.err new.err status
 
-  -- a command is run with what it needs first, or the error that there is none ends the run
+  -- a command is run with what it needs, once that was read; else the run ends with that error
   abbrev pub RunsWith : {X : Type 0} → (X → CommandPlan) → (X → List Answer → Type 0) → Result X RunError → Type 0
   RunsWith plan fairly (Ok x) = Runs trait (λ mode. plan x) (fairly x) old new status
   RunsWith plan fairly (Err why) = EndsBefore why

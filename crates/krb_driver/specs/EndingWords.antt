@@ -14,14 +14,14 @@ use Rattle.krb_ccache.specs.Open.{open_fault_phrase as cc_phrase}
 use Rattle.krb_files.specs.declared.cause.Cause.{Cause}
 use Rattle.krb_files.specs.declared.cause.Cause.TheVariants.{InTheWay, System}
 use Rattle.krb_files.specs.Phrases.{cause_phrase}
-use Rattle.krb_cache_text.specs.Escape.{escaped_text}
+use Rattle.krb_text.specs.Escape.{escaped_text}
 use Rattle.krb_text.specs.declared.line_fault.LineFault.{LineFault}
 use Rattle.krb_text.specs.declared.line_fault.LineFault.TheVariants.{UnknownWord}
 use Rattle.krb_text.specs.LineFault.{line_phrase, ktutil_phrase}
-use Rattle.krb_audit.specs.Table.{has, row_of}
-use Rattle.krb_audit.specs.declared.finding.Finding.{Finding}
-use Rattle.krb_audit.specs.declared.finding.TheConstants.{FINDINGS}
-use Rattle.krb_audit.specs.declared.finding_set.FindingSet.{FindingSet}
+use Rattle.krb_findings.specs.Table.{has, row_of}
+use Rattle.krb_findings.specs.declared.finding.Finding.{Finding}
+use Rattle.krb_findings.specs.declared.finding.TheConstants.{FINDINGS}
+use Rattle.krb_findings.specs.declared.finding_set.FindingSet.{FindingSet}
 use Rattle.krb_driver.specs.declared.error.RunError.{RunError}
 use Rattle.krb_driver.specs.declared.file_name.NameSource.{NameSource}
 use Rattle.krb_driver.specs.declared.file_name.NameSource.TheVariants.{Word, LikePrincipal, CacheVariable, KeytabVariable, Default}
@@ -115,7 +115,7 @@ line_fault_phrase (Some line) fault = ktutil_phrase fault
 
 -- ---- words
 
--- the words that tell where a file's name comes from, if no word of a line gave it; or how a principal is named
+-- the words that say where a file's name comes from, if no word of a line gave it; or how a principal is named
 abbrev pub source_words : NameSource → List ℕ
 source_words Word = []
 source_words LikePrincipal = codes "krbfile: to name a principal, give -p\n"
@@ -123,7 +123,7 @@ source_words CacheVariable = codes "krbfile: KRB5CCNAME names it\n"
 source_words KeytabVariable = codes "krbfile: KRB5_KTNAME names it\n"
 source_words Default = codes "krbfile: the default name (krb5.conf is not read); give FILE\n"
 
--- the words for a missing file: ktutil says it once more, and a run tells where a name comes from that it was not given
+-- the words for a missing file: ktutil says it once more, and a run says where a name comes from that it was not given
 abbrev pub missing_words : Option ℕ → NameSource → List ℕ
 missing_words None source = source_words source
 missing_words (Some line) source = phrase_line (Some line) (codes "no such file")

@@ -5,9 +5,9 @@ use Rattle.std.specs.List.{flat_map, list_all, list_any, range_with_len}
 use Rattle.krb_wire.specs.declared.format.Order.{Order}
 use Rattle.krb_wire.specs.declared.format.Order.TheVariants.{Big, Little}
 use Rattle.krb_text.specs.Etype.{etype_name_of}
-use Rattle.krb_cache_text.specs.Escape.{is_printable}
-use Rattle.krb_audit.specs.Table.{has}
-use Rattle.krb_audit.specs.declared.finding.Finding.TheVariants.{Weak, Old, Same}
+use Rattle.krb_text.specs.Escape.{is_printable}
+use Rattle.krb_findings.specs.Table.{has}
+use Rattle.krb_findings.specs.declared.finding.Finding.TheVariants.{Weak, Old, Same}
 use Rattle.krb_driver.specs.declared.verdict.Findings.{Findings}
 use Rattle.krb_driver.specs.FileNames.{type_of}
 use Rattle.krb_driver.specs.Messages.{line_if}

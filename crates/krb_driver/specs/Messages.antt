@@ -5,7 +5,7 @@ use Rattle.std.specs.Char.{is_ascii_hexdigit}
 use Rattle.std.specs.List.{flat_map, list_all}
 use Rattle.std.specs.Option.{option_map_or}
 use Rattle.hex.specs.Hex.{encode_lower}
-use Rattle.krb_cache_text.specs.Escape.{is_printable, escaped, escaped_text}
+use Rattle.krb_text.specs.Escape.{is_printable, escaped, escaped_text}
 use Rattle.krb_driver.specs.FirstWords.{word_text}
 use Rattle.krb_driver.specs.declared.reporting.said.Said.{Said}
 use Rattle.krb_driver.specs.declared.reporting.writing.Form.{Form}
@@ -78,7 +78,7 @@ key_start word = key_from true word
 abbrev pub has_key : List ℕ → Bool
 has_key word = nat_lt (key_start word) (length word)
 
--- what stands in the place of what may be a key
+-- what is printed in place of what may be a key
 abbrev pub hidden_word : List ℕ
 hidden_word = codes "a word of hexadecimal digits"
 

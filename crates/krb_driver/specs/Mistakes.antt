@@ -174,7 +174,7 @@ pub record Matched : Type 0 where
   pub values : List ℕ → List (List ℕ)
   pub is_long : List ℕ → Bool
 
--- an option as it was typed: by its long name if that stands on the line, and otherwise by its letter
+-- an option as it was typed: by its long name if that is on the line, and otherwise by its letter
 abbrev pub typed : Matched → List ℕ → List ℕ → List ℕ
 typed words letter name = if words.is_long name then name else letter
 

@@ -17,8 +17,8 @@ use Rattle.krb_files.specs.declared.files.SaveFault.{SaveFault}
 use Rattle.krb_files.specs.declared.files.SaveFault.TheVariants as save
 use Rattle.krb_files.specs.declared.output.OutFault.{OutFault}
 use Rattle.krb_files.specs.declared.output.OutFault.TheVariants as out
-use Rattle.krb_text.specs.declared.script.ScriptRefusal.{ScriptRefusal}
-use Rattle.krb_text.specs.declared.script.ScriptRefusal.TheVariants as refusal
+use Rattle.krb_text.specs.declared.line_fault.ScriptRefusal.{ScriptRefusal}
+use Rattle.krb_text.specs.declared.line_fault.ScriptRefusal.TheVariants as refusal
 use Rattle.krb_text.specs.declared.line_fault.LineFault.{LineFault}
 use Rattle.krb_text.specs.declared.line_fault.LineFault.TheVariants.{UnknownWord, WordCount}
 use Rattle.krb_text.specs.LineFault.{line_fault_number}
@@ -196,6 +196,6 @@ aftermath_status (Some LostChange) = 1
 aftermath_status (Some Mixed) = 1
 aftermath_status other = 0
 
--- the exit status of a run that ended so, and whose save left this behind
+-- the exit status, by the end of the run and what its save left behind
 abbrev pub end_status : Ending → Option Aftermath → ℕ
 end_status ending aftermath = max (ending_status ending) (aftermath_status aftermath)

@@ -25,12 +25,12 @@ abbrev pub words_if : Bool → List ℕ → List ℕ
 words_if true words = words
 words_if false words = []
 
--- what a save left behind is told where no words are shown too: all but that the old bytes are back
+-- what a save left behind is reported even if no words are shown: all but that the old bytes are back
 abbrev pub is_message : Aftermath → Bool
 is_message Restored = false
 is_message aftermath = true
 
--- the line that tells it
+-- the line that reports it
 abbrev pub aftermath_line : List ℕ → Option ℕ → Aftermath → List ℕ
 aftermath_line file None Restored = phrase_line None (aftermath_phrase Restored)
 aftermath_line file None aftermath = file_message file (aftermath_phrase aftermath)

@@ -1,7 +1,7 @@
 //! What a command is, the world that it runs in, and the driver that runs one.
 
 ghost use Rattle.std.specs.Prelude.{◌≡◌, ℕ, List};
-ghost use Rattle.krb_driver.specs.Commands.{EndsCommand, Finishes, Runs, Settles, ShowsEnd, made_effect, ready_end, told_of, Effect, Page, about, is_save};
+ghost use Rattle.krb_driver.specs.Commands.{EndsCommand, Finishes, Runs, Settles, ShowsEnd, made_effect, ready_end, reported_aftermath, Effect, Page, about, is_save};
 
 use crate::error::{RunError, is_spent};
 use crate::file_name::FileName;
@@ -136,10 +136,10 @@ pub trait Command<A: Allocator + Copy> {
     /// What it shows.
     type Shown: Show<A>;
 
-    /// The name of the file that it is about, and the only one that it may save.
+    /// The name of its file, which its messages give; it saves no other.
     ghost file: { Self → List ℕ };
 
-    /// All that it does, given the mode of the file that it loads last.
+    /// Its plan, by the mode of the file that it loads last, which ktcheck reports.
     ghost plan: { Self → Option ℕ → CommandPlan };
 
     /// What else holds of the results of its loads.
@@ -184,14 +184,14 @@ fn is_save<A: Allocator, S: Drop>(made: &Result<Made<A, S>, FileError<'_>>) -> b
     matches!(made, Ok(Made::Saves(_, _)))
 }
 
-// Returns what to tell of a run, or of that line of ktutil, which tell only what their own save left behind.
-fn details_to_tell<'a>(
+// Returns what to report of a run, or of a line of ktutil: each reports only what its own save left behind.
+fn details_to_report<'a>(
     line: Option<u64>,
     saves: bool,
     ending: &Result<Verdict, RunError>,
     details: Details<'a>,
 ) -> Details<'a>
-    ensures { (effect : Effect) → saves ≡ is_save effect → result.aftermath ≡ told_of line effect ending.now details.entry.aftermath }
+    ensures { (effect : Effect) → saves ≡ is_save effect → result.aftermath ≡ reported_aftermath line effect ending.now details.entry.aftermath }
 {
     if saves && (line.is_none() || !is_spent(ending)) {
         return details;
@@ -254,7 +254,7 @@ pub fn finish<A: Allocator + Copy, S: Show<A>, F: Files, R: Read, W: Write, E: W
     let named = about(&ready, file);
     let ending = show_ready(alloc, file, ready, &mut world.out);
     let details = details_of(&ending, &world.files, &world.out);
-    let details = details_to_tell(line, saves, &ending, details);
+    let details = details_to_report(line, saves, &ending, details);
     let status = report(ending, named.as_bytes(), line, details, &mut world.err);
     RunEnd { ending, status }
 }

@@ -108,7 +108,7 @@ fn ending_message(ending: Result<Verdict, RunError>, file: &[u8]) -> Line<'_>
     }
 }
 
-// Adds what a save left behind, if that is to be told and is a message, or words are shown.
+// Adds what a save left behind, if there is that, and it is a message or words are shown.
 fn add_aftermath<E: Write>(
     explains: bool,
     aftermath: Option<Aftermath>,

@@ -56,7 +56,7 @@ pub struct Ran<S: Copy> {
 }
 
 impl<S: Copy> Ran<S> {
-    // Returns what they came to after one more, which ended with that status and left that to remember.
+    // Adds the run of one more file: its state, and the greater status.
     fn with(self, state: S, status: u8) -> Ran<S>
         ensures state { result.state ≡ state }
         ensures status { result.status ≡ max self.status status }

@@ -4,7 +4,7 @@ ghost use Rattle.std.specs.Prelude.{◌≡◌};
 ghost use Rattle.krb_driver.specs.RunErrors.{hiding, listing_verdict, verdict_status};
 
 use crate::reporting::reported::Reported;
-use krb_audit::{FindingSet, WeakEtypes};
+use krb_findings::{FindingSet, WeakEtypes};
 use krb_walk::Fault;
 use krb_wire::Order;
 
@@ -44,7 +44,7 @@ pub enum Verdict {
     Found(Findings),
     /// No entry, or no ticket, is selected.
     NothingToRemove(FileKind),
-    /// The same, of one of several files, which is told at their end.
+    /// The same, of one of several files, which is reported at their end.
     Without,
     /// Two keytabs do not have the same keys.
     Differ,

@@ -1,4 +1,4 @@
--- Where live cells and added entries stand, in lists and in sets.
+-- The places of live cells and of added entries, in lists and in sets.
 use Rattle.krb_editors.proofs.Cited.{◌≡◌, ◌≢◌, ℕ, ◌<◌, ◌≤◌, true, List, [], ◌∷◌, map, Option, Some, None, refl, ap, arith, Store, Record, IsSound, end_of, is_place, next_live, stop_at, stop_of, zero, suc, Bool, false, ◌++◌, length, get_or, sym, ◌∙◌, subst, list_any, Event, carry, nth_or, ReplyContent, Started, Gave, Ended, Faulted, Placed, Gone, Rewritten, Refused, Rules, SessionState, after, history, moment, state_after, KeytabState, HaveSame, followed_past, followed_over, places_after, records_from, stops_end, stops_give_records, IsNonDecreasing, Rises, eq-eqb, eqb-true, any_of_map, hidden_at, hidden_from, hides_added}
 use Rattle.krb_walk.specs.declared.stop.Stop.TheVariants.{Live}
 use Rattle.krb_walk.proofs.Cells.{stops_live}

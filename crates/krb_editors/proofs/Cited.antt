@@ -14,7 +14,7 @@ pub use Rattle.krb_driver.specs.Commands.{fair_first, of_file, GivesOf, Makes, t
 pub use Rattle.krb_driver.specs.declared.error.RunError.{RunError}
 pub use Rattle.krb_files.specs.Plan.{Ends}
 pub use Rattle.krb_keytab.specs.Store.{KeytabState}
-pub use Rattle.krb_text.specs.Reply.{reply_texts_by, reply_text_by, record_tail, format_after_by}
+pub use Rattle.krb_keytab_text.specs.Reply.{reply_texts_by, reply_text_by, record_tail, format_after_by}
 pub use Rattle.krb_walk.proofs.Runs.{ran_none, ran_of}
 pub use Rattle.krb_walk.specs.Events.{SessionState, reply_to, session_of, after, put_reply, cut_store, step_reply, end_reply, put_store, rewrite_reply, stop_reply, store_after, cut_reply}
 pub use Rattle.krb_walk.specs.History.{history, state_after, replies, moment, AllLawful}

@@ -32,7 +32,7 @@ ended_by o now = if o.expired then clock_time now else Ok None
 abbrev pub cache_after : CacheState → List ℕ → CacheState
 cache_after k places = cut_store (without k places) (rewrite_result (without k places))
 
--- the verdict if no ticket is selected: no failure with `--expired`, if nothing else is asked for or some ticket is that; told at the end of several files
+-- the verdict if no ticket is selected: no failure with `--expired`, if nothing else is asked for or some ticket is that; reported at the end of several files
 abbrev pub none_verdict : {A : Type 0} → Bool → TicketOptions A → Bool → Verdict
 none_verdict are_several o named =
     if o.expired && (((length o.servers.items == 0) && not o.all_services) || named) then Well

@@ -42,7 +42,7 @@ most_frame = 16777227
 abbrev pub frame : List ℕ → List ℕ
 frame image = decimal (length image) ++ (codes "\n" ++ image)
 
--- what stands before an image of that length, if it is the length and a newline
+-- what comes before an image of that length, if it is the length and a newline
 abbrev pub head_if : ℕ → ℕ → Option ℕ → Option ℕ
 head_if end len None = None
 head_if end len (Some n) = if len == n then Some (end + 1) else None
@@ -51,7 +51,7 @@ abbrev pub head_of : List ℕ → Option ℕ → Option ℕ
 head_of text None = None
 head_of text (Some end) = head_if end (length text - (end + 1)) (number_in 32 (take end text))
 
--- the length of what stands before the image, if the text is just one frame: one to ten digits and a newline before as many bytes
+-- the length of what comes before the image, if the text is just one frame: one to ten digits and a newline before as many bytes
 abbrev pub head_len : List ℕ → Option ℕ
 head_len text = head_of text (position_from (λ b. b == 10) 0 text)
 
@@ -121,7 +121,7 @@ module _ {F : Type 0} (trait : Ghosts F) where
     pub loads : LoadsFile trait old name answer new
     pub given_is : (given ≡ Err error.NoMemory) ⊎ (given ≡ gives answer)
 
-  -- the file of that name, which is to be held, is held, and can be saved as far as its hold tells; or it cannot
+  -- the file of that name, which is to be held, is held, and can be saved as far as its hold shows; or it cannot
   pub record ChecksHold (file : List ℕ) (old : F) (end : Result (Unit {0}) (List ℕ × RunError)) (new : F) : Type 0 where
     pub answer : Result (Unit {0}) SaveFault
     pub end_is : end ≡ result_map_err (λ fault. (file, save_error fault)) answer
@@ -200,5 +200,5 @@ pub record RunsHold {F R W E : Type 0} (trait : Ghosts F) (old new : World F R W
   pub same : new ≡ record done { files = new.files; out = new.out; err = new.err }
   pub details : Details
   pub reported : Reports (about_end file.name.now end) None details (ending_of end) done.err new.err status
-  pub told : details.aftermath ≡ trait.aftermath new.files
+  pub left_behind : details.aftermath ≡ trait.aftermath new.files
   pub last : TellsEnd done.out new.out (last_line status details.cause details.aftermath end)

@@ -37,7 +37,7 @@ asks_for_some s = not (asks_for_any s) || not (is_any_kvno s.kvno)
 abbrev pub finds_none : {A : Type 0} → Selection A → List PlacedEntry → Bool
 finds_none s xs = (length xs == 0) && asks_for_some s
 
--- the verdict of a run that copied entries and met no clash: it tells from where on MIT's programs see none, if they miss a copy
+-- the verdict of a run that copied entries and met no clash: it says from where on MIT's programs see none, if they miss a copy
 abbrev pub copied_verdict : Run → Verdict
 copied_verdict run = hiding (hides_added run.keytab run.places) Well
 

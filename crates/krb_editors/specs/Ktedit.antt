@@ -8,7 +8,7 @@ use Rattle.krb_keytab.specs.Rewrite.{keytab_rules}
 use Rattle.krb_keytab.specs.Store.{KeytabState, image_of}
 use Rattle.krb_files.specs.Loading.{Answer}
 use Rattle.krb_files.specs.Plan.{Ends}
-use Rattle.krb_text.specs.Reply.{reply_text}
+use Rattle.krb_keytab_text.specs.Reply.{reply_text}
 use Rattle.krb_audit.specs.Findings.{hides_added}
 use Rattle.krb_driver.specs.declared.file_name.FileName.{FileName}
 use Rattle.krb_driver.specs.declared.verdict.FileKind.TheVariants.{Keytab}
@@ -17,7 +17,7 @@ use Rattle.krb_driver.specs.Loading.{keytab_or_empty}
 use Rattle.krb_editors.specs.Sessions as session
 use Rattle.krb_editors.specs.Sessions.{may_change}
 
--- the place from which on MIT's programs see no entry after events over a keytab, if one that these added is among those
+-- the place from which on MIT's programs see no entry after the script, if it added an entry there or later
 abbrev pub hidden : List (Event EntryParts) → KeytabState → Option ℕ
 hidden events keytab = hides_added (session.left keytab_rules keytab events) (session.added keytab_rules keytab events)
 

@@ -7,7 +7,7 @@ use Rattle.krb_keytab.specs.Changes.{without}
 use Rattle.krb_keytab.specs.Find.{PlacedEntry, placed_entries}
 use Rattle.krb_keytab.specs.Store.{KeytabState, image_of}
 use Rattle.krb_files.specs.Plan.{Ends}
-use Rattle.krb_text.specs.Listing.{removed_line}
+use Rattle.krb_keytab_text.specs.Listing.{removed_line}
 use Rattle.krb_text.specs.Numbers.{seconds_in}
 use Rattle.krb_audit.specs.declared.selection.SelectedKvno.{SelectedKvno}
 use Rattle.krb_audit.specs.declared.selection.SelectedKvno.TheVariants.{Old, OldFor}
@@ -32,7 +32,7 @@ asks_for_old Old = true
 asks_for_old (OldFor seconds) = true
 asks_for_old kvno = false
 
--- the verdict if no entry is selected: `refused 9`, told at the end of several files; with `-k old` all is well if no name or enctype is given, or some entry has them
+-- the verdict if no entry is selected: `refused 9`, reported at the end of several files; with `-k old` all is well if no name or enctype is given, or some entry has them
 abbrev pub none_verdict : {A : Type 0} → Bool → Selection A → Bool → Verdict
 none_verdict are_several s has_named =
     if asks_for_old s.kvno && (asks_for_any s || has_named) then Well else (if are_several then Without else NothingToRemove Keytab)
@@ -83,7 +83,7 @@ remove_mistake words =
     (option_or (twice words (codes "age") (codes "--age") (codes "--age"))
     (option_or (odd_selection words) (option_or (kvno_mistake words) (bad_criteria words))))
 
--- the same kvnos, old ones only if they have been replaced for so many seconds
+-- the same kvnos, old ones only if they have been replaced for that many seconds
 abbrev pub with_age : Option ℕ → SelectedKvno → SelectedKvno
 with_age (Some seconds) Old = OldFor seconds
 with_age age kvno = kvno

@@ -25,9 +25,9 @@ abbrev pub missing_error : FileName → RunError
 missing_error file = if file.is_other_type then OtherType file.kind file.source else NoSuchFile file.source
 
 -- it is reported that there is no such file, if it is missing
-abbrev pub TellsMissing : Bool → FileName → ErrorWatch → ErrorWatch → Type 0
-TellsMissing true file err err' = (details : Details) × ((details.aftermath ≡ None) × ReportsEnd file.name.now None details (Err (missing_error file)) err err')
-TellsMissing false file err err' = err' ≡ err
+abbrev pub ReportsMissing : Bool → FileName → ErrorWatch → ErrorWatch → Type 0
+ReportsMissing true file err err' = (details : Details) × ((details.aftermath ≡ None) × ReportsEnd file.name.now None details (Err (missing_error file)) err err')
+ReportsMissing false file err err' = err' ≡ err
 
 module _ {F : Type 0} (trait : Ghosts F) (files : F) where
   -- a file was looked at: over honest files as it is, or it is unknown; it was reported if it is missing
@@ -35,7 +35,7 @@ module _ {F : Type 0} (trait : Ghosts F) (files : F) where
     pub node : Node
     pub sees : trait.is_honest files → (node ≡ node_of (trait.file files file.name.now)) ⊎ (node ≡ Unknown)
     pub missing_is : missing ≡ is_missing file node
-    pub tells : TellsMissing missing file err err'
+    pub reports : ReportsMissing missing file err err'
 
   -- so was each of several, one after the other, and this is whether one is missing
   abbrev pub LooksFor : List FileName → ErrorWatch → ErrorWatch → Bool → Type 0

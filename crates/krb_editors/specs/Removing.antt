@@ -16,7 +16,7 @@ use Rattle.krb_editors.specs.MissingFiles.{LooksFirst}
 use Rattle.krb_editors.specs.declared.removing.FilesSeen.{FilesSeen}
 use Rattle.krb_editors.specs.declared.removing.FilesSeen.TheVariants as seen
 
--- what is seen of a file whose run ended so: it is without what is asked for, or it was asked, unless a message was told before; what ends the runs counts as asked
+-- what is seen of a file whose run ended so: it is without what is asked for, or it was asked, unless a message was printed before; what ends the runs counts as asked
 abbrev pub seen_of : Ending → FilesSeen
 seen_of (Ok Without) = seen.Without
 seen_of (Ok verdict) = seen.Asked
@@ -43,13 +43,13 @@ is_none other = false
 
 module _ {F R W E : Type 0} (trait : Ghosts F) (old new : World F R W E) (status : ℕ) where
   -- at the end it is reported if what is asked for is in no file
-  pub record TellsNone (kind : FileKind) (worst : ℕ) : Type 0 where
-    pub told : ℕ
-    pub prints : Prints trait old new told (ends_by (error.NothingSelected kind))
-    pub status_is : status ≡ max worst told
+  pub record ReportsNone (kind : FileKind) (worst : ℕ) : Type 0 where
+    pub reported : ℕ
+    pub prints : Prints trait old new reported (ends_by (error.NothingSelected kind))
+    pub status_is : status ≡ max worst reported
 
   abbrev pub EndsRemovals : FileKind → FilesSeen → ℕ → Type 0
-  EndsRemovals kind most worst = (IsTrue (is_none most) × TellsNone kind worst) ⊎ (IsFalse (is_none most) × (new ≡ old) × (status ≡ worst))
+  EndsRemovals kind most worst = (IsTrue (is_none most) × ReportsNone kind worst) ⊎ (IsFalse (is_none most) × (new ≡ old) × (status ≡ worst))
 
 module _ {F R W E : Type 0} (trait : Ghosts F) (kind : FileKind) (names : List FileName) (old new : World F R W E) (status : ℕ) (plan : Bool → FileName → CommandPlan) where
   -- what is asked for was removed from files, one after the other: `plan` is what is done with each
@@ -73,7 +73,7 @@ module _ {F R W E : Type 0} (trait : Ghosts F) (kind : FileKind) (names : List F
     pub looks : LooksFirst trait names old looked missing
     pub removes : RemovesUnless trait kind names looked new status plan missing
 
-  -- the same with what it needs first, or the error that there is none ends the run
+  -- `LooksAndRemoves`, once the clock that it needs was read; else the run ends with that error
   abbrev pub RemovesWith : {X : Type 0} → (X → Bool → FileName → CommandPlan) → Result X RunError → Type 0
   RemovesWith plan (Ok x) = LooksAndRemoves (plan x)
   RemovesWith plan (Err why) = EndsBefore trait old new status why

@@ -20,7 +20,7 @@ use Rattle.krb_files.specs.declared.files.LoadFault.{LoadFault}
 use Rattle.krb_files.specs.Loading.{Answer, most_bytes}
 use Rattle.krb_files.specs.Bytes.{Source}
 use Rattle.krb_text.specs.declared.line_fault.LineFault.{LineFault}
-use Rattle.krb_text.specs.Script.{script_by}
+use Rattle.krb_keytab_text.specs.Script.{script_by}
 use Rattle.krb_driver.specs.declared.error.RunError.{RunError}
 use Rattle.krb_driver.specs.declared.error.RunError.TheVariants.{NoMemory}
 use Rattle.krb_driver.specs.declared.command.World.{World}
@@ -93,7 +93,7 @@ module _ {S I : Type 0} (rules : Rules S I) (store : S) (events : List (Event I)
   abbrev pub left : S
   left = (state_after rules (new_session store) events).store
 
-  -- the places at which entries that they added stand after them
+  -- the places of the entries that they added, after them
   abbrev pub added : List ℕ
   added = followed_over rules [] moments
 

@@ -1,4 +1,4 @@
-//! Follows where the entries that a session adds stand.
+//! Follows the places of the entries that a session adds.
 
 ghost use Rattle.std.specs.Prelude.{◌≡◌, ◌<◌, ◌∷◌, [], true, filter, length, map, nat_lt, IfOk, OnOk};
 ghost use Rattle.std.specs.List.Sorted.{IsNonDecreasing};
@@ -52,7 +52,7 @@ fn rank(places: &[u32], place: u32) -> usize
     places.partition_point(|other| *other < place)
 }
 
-// Returns the place of that rank, or the end if there are not so many.
+// Returns the place of that rank, or the end if there is none.
 fn of_rank(places: &[u32], end: u32, rank: usize) -> u32
     ensures { result ≡ nth_or end places.now rank }
 {
@@ -124,7 +124,7 @@ fn apply<P: Placed, A: Allocator + Copy>(
     Ok(replies.push(reply)?)
 }
 
-/// Applies events in order like `Session::run`, and returns the places at which entries that they added stand at the end.
+/// Applies events in order like `Session::run`, and returns the places, at the end, of the entries that they added.
 pub fn run_following<P: Placed, A: Allocator + Copy>(
     alloc: A,
     session: &mut Session<P, A>,

@@ -1,16 +1,16 @@
-//! Reads a script, and tells what to save and print after its session.
+//! Reads a script, and returns what to save and print after its session.
 
 ghost use Rattle.std.specs.Prelude.{◌≡◌, ℕ, List, IfOk, Ok, map};
 ghost use Rattle.std.specs.List.{list_any};
 ghost use Rattle.krb_walk.specs.ReplyContent.{content_of};
-ghost use Rattle.krb_text.specs.Reply.{reply_texts_by};
+ghost use Rattle.krb_keytab_text.specs.Reply.{reply_texts_by};
 ghost use Rattle.krb_driver.specs.Commands.{text_effect};
 ghost use Rattle.krb_editors.specs.Sessions.{is_change, may_change, replied, GivesLines};
 ghost use Rattle.krb_driver.specs.Loading.{result_map};
 
 use krb_driver::{FileKind, Made, Output, RunError, read_input, replied_verdict};
 use krb_files::WatchedReader;
-use krb_text::{RecordFormat, ScriptLine, parse_script, reply_lines};
+use krb_keytab_text::{RecordFormat, ScriptLine, parse_script, reply_lines};
 use krb_walk::{Event, Reply};
 use krb_wire::{NoMemory, USUAL_LIMIT};
 use std::alloc::Allocator;

@@ -73,7 +73,7 @@ fn give_whole<'a, A: Allocator + Copy, F: Files>(
     }
 }
 
-// Fails if the held file could not be saved, as far as its hold tells.
+// Fails if the held file could not be saved, as far as its hold shows.
 fn check_hold<'a, F: Files>(files: &mut F, file: FileName<'a>) -> Result<(), FileError<'a>>
     ensures { ChecksHold F.Files file.entry.name.now files.old (end_of result) files.new }
 {

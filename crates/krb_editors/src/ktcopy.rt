@@ -151,8 +151,8 @@ fn clashed<A: Allocator, B: Allocator>(
     }
 }
 
-// Returns what to print of a run that copied entries to these places. The verdict tells if MIT's programs miss one.
-fn told<A: Allocator>(keytab: &Keytab<A>, places: &[u32], text: Vec<u8, A>) -> Output<A>
+// Returns what to print of a run that copied entries to these places. The verdict says if MIT's programs miss one.
+fn copied_output<A: Allocator>(keytab: &Keytab<A>, places: &[u32], text: Vec<u8, A>) -> Output<A>
     ensures text { result.text.items ≡ text.items }
     ensures verdict { result.verdict ≡ hiding (hides_added keytab.now.state places.now) Well }
 {
@@ -181,7 +181,7 @@ fn made<'a, A: Allocator + Copy, B: Allocator>(
         let verdict = Verdict::Well;
         return Ok(Made::Shows(Output { text, verdict }));
     }
-    let output = told(&keytab, &places, text);
+    let output = copied_output(&keytab, &places, text);
     if command.options.dry_run {
         return Ok(Made::Shows(output));
     }

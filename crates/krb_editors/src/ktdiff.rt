@@ -161,8 +161,8 @@ impl<'f, A: Allocator + Copy, B: Allocator> Command<A> for DiffEntries<'f, B> {
     }
 }
 
-/// Prints a line for each name, version and encryption type of which the keytabs `ours` and `others` do not have the same
-/// keys, and returns the exit status: 0 if there is none.
+/// Prints a line for each name, version and encryption type whose keys differ between the keytabs `ours` and `others`,
+/// and returns the exit status: 0 if there is none.
 #[tactic(auto, unfolding(krb_driver::specs::Commands::always))]
 pub fn run_ktdiff<A: Allocator + Copy, B: Allocator, F: Files, R: Read, W: Write, E: Write>(
     alloc: A,

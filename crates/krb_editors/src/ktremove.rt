@@ -89,7 +89,7 @@ fn refuse_unselected<'a, M: Matches<'a>>(matches: &M) -> Result<(), Mistake<'a>>
     }
 }
 
-// Returns the same kvnos, old ones only if they have been replaced for so many seconds.
+// Returns the same kvnos, old ones only if they have been replaced for that many seconds.
 fn with_age(kvno: SelectedKvno, age: Option<u32>) -> SelectedKvno
     ensures { result ≡ with_age age kvno }
 {

@@ -35,7 +35,7 @@ pub use Rattle.krb_text.specs.Etype.{etype_name_of}
 pub use Rattle.krb_walk.specs.Store.{fault_of}
 pub use Rattle.krb_keytab.specs.Store.{KeytabState, store_of}
 pub use Rattle.krb_audit.specs.CheckUp.{CheckParts}
-pub use Rattle.krb_audit.specs.declared.finding.TheConstants.{ABOUT_ENTRIES}
+pub use Rattle.krb_findings.specs.declared.finding.TheConstants.{ABOUT_ENTRIES}
 pub use Rattle.std.proofs.lemmas.Str.{IsUtf8-from_is_utf8, is_utf8-from_IsUtf8, IsUtf8-from_ascii, encode_ascii}
 pub use Rattle.krb_text.specs.Flags.{flag_table, is_set, flag_letters_of}
 pub use Rattle.json.specs.Value.{items_of}

@@ -68,7 +68,7 @@ token_escaped t h = unescaped t (escaped-none _ refl) h
 
 -- ---- tokens
 
--- after a value stands a comma, a closing bracket or nothing
+-- a value is followed by a comma, a closing bracket or nothing
 print_ends : (ts : List Token) → ends_word (print_from true ts) ≡ true
 unfolding print_from
 print_ends [] = refl

@@ -30,9 +30,9 @@ some_of : (o : Option ℕ) (x : ℕ) → is_some_of o x ≡ true → o ≡ Some 
 some_of None x h = absurd (false≢true h)
 some_of (Some y) x h = ap (λ n. Some n) (eqb-true y x h)
 
--- ---- what a text within a string stands for
+-- ---- what a text within a string means
 
--- a text stands for bytes, whatever comes after it, and ends no string
+-- a text is read as bytes, whatever comes after it, and ends no string
 record Stands (text bytes : List ℕ) : Type 0 where
   read : (r : List ℕ) → content plain (text ++ r) ≡ prepend bytes (content plain r)
   lexed : (r : List ℕ) → lex in_string (text ++ r) ≡ lex in_string r
@@ -214,9 +214,9 @@ pub record IsRead (s : List ℕ) : Type 0 where
 
 -- bytes before a string
 is_read-front : (text bytes s : List ℕ) → Stands text bytes → text_within (bytes ++ s) ≡ text ++ text_within s → IsRead s → IsRead (bytes ++ s)
-is_read-front text bytes s stands e h = record {
-  read = λ r. ap (λ t. content plain (t ++ 34 ∷ r)) e ∙ ap (content plain) (append_assoc text (text_within s) (34 ∷ r)) ∙ stands.read _ ∙ ap (prepend bytes) (h.read r);
-  lexed = λ r. ap (λ t. lex in_string (t ++ 34 ∷ r)) e ∙ ap (lex in_string) (append_assoc text (text_within s) (34 ∷ r)) ∙ stands.lexed _ ∙ h.lexed r;
+is_read-front text bytes s front e h = record {
+  read = λ r. ap (λ t. content plain (t ++ 34 ∷ r)) e ∙ ap (content plain) (append_assoc text (text_within s) (34 ∷ r)) ∙ front.read _ ∙ ap (prepend bytes) (h.read r);
+  lexed = λ r. ap (λ t. lex in_string (t ++ 34 ∷ r)) e ∙ ap (lex in_string) (append_assoc text (text_within s) (34 ∷ r)) ∙ front.lexed _ ∙ h.lexed r;
 }
 
 one_more : (x : ℕ) (s : List ℕ) → BeginsNone x s → IsRead s → IsRead (x ∷ s)
@@ -229,8 +229,8 @@ pair_more : (x b : ℕ) (s : List ℕ) → is_pair x b ≡ true → IsRead s →
 pair_more x b s pair h =
     let parts = and_parts (x == 194) (is_second b) pair in
     let bounds = and_parts (nat_le 128 b) (nat_le b 159) parts.1 in
-    let stands = subst (Stands (escape b)) (second_bytes b (omega (arith, leb-true 128 b bounds.0))) (escape_stands b (omega (arith, leb-true b 159 bounds.1))) in
-    subst (λ y. IsRead (y ∷ b ∷ s)) (sym (eqb-true x 194 parts.0)) (is_read-front (escape b) (194 ∷ b ∷ []) s stands (within_pair b s parts.1) h)
+    let front = subst (Stands (escape b)) (second_bytes b (omega (arith, leb-true 128 b bounds.0))) (escape_stands b (omega (arith, leb-true b 159 bounds.1))) in
+    subst (λ y. IsRead (y ∷ b ∷ s)) (sym (eqb-true x 194 parts.0)) (is_read-front (escape b) (194 ∷ b ∷ []) s front (within_pair b s parts.1) h)
 
 pub is_read : (s : List ℕ) → IsRead s
 unfolding content lex escaped

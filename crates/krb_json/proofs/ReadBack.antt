@@ -16,7 +16,7 @@ use Rattle.krb_ccache.specs.Store as cache
 use Rattle.krb_ccache.specs.Credential.{FitsTimes}
 use Rattle.krb_ccache.specs.declared.ticket.TicketEncryption.{TicketEncryption}
 use Rattle.krb_audit.specs.declared.counts.Counts.{Counts}
-use Rattle.krb_audit.specs.declared.finding.Finding.{Finding}
+use Rattle.krb_findings.specs.declared.finding.Finding.{Finding}
 use Rattle.krb_json.specs.declared.summary.CacheSummary.{CacheSummary}
 use Rattle.krb_json.specs.Summary.{number_or_null, summary_value}
 use Rattle.krb_json.proofs.EscapedReads.{document-text}

@@ -48,7 +48,7 @@ abbrev pub integer_or_null : Option ℤ → Json
 integer_or_null None = null
 integer_or_null (Some n) = number (signed_decimal n)
 
--- a ticket's own enctype, its name, and the kvno, each null if the ticket does not tell it
+-- a ticket's own enctype, its name, and the kvno, each null if the ticket does not have it
 unfoldable pub encryption_members : Option TicketEncryption → List Member
 encryption_members encryption =
     (codes "ticket_etype", integer_or_null (option_map (λ e. e.etype) encryption))

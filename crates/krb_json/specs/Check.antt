@@ -5,13 +5,13 @@ use Rattle.json.specs.Json.{Json, null, string}
 use Rattle.krb_wire.specs.Names.{name_text}
 use Rattle.krb_keytab.specs.Find.{PlacedEntry}
 use Rattle.krb_audit.specs.declared.counts.Counts.{Counts}
-use Rattle.krb_audit.specs.declared.finding.Finding.{Finding}
-use Rattle.krb_audit.specs.declared.finding.Finding.TheVariants.{Mode, Missing, Empty}
-use Rattle.krb_audit.specs.declared.finding.TheConstants.{ABOUT_ENTRIES}
+use Rattle.krb_findings.specs.declared.finding.Finding.{Finding}
+use Rattle.krb_findings.specs.declared.finding.Finding.TheVariants.{Mode, Missing, Empty}
+use Rattle.krb_findings.specs.declared.finding.TheConstants.{ABOUT_ENTRIES}
 use Rattle.krb_audit.specs.CheckUp.{CheckParts, has_mode, is_open}
-use Rattle.krb_audit.specs.Findings.{Marked}
+use Rattle.krb_audit.specs.Findings.{Marked, first_for}
 use Rattle.krb_audit.specs.Report.{mode_digits}
-use Rattle.krb_audit.specs.Table.{first_for, has, row_of}
+use Rattle.krb_findings.specs.Table.{has, row_of}
 use Rattle.krb_json.specs.Escaped.{json_text}
 use Rattle.krb_json.specs.Members.{Member, object_of, array_of, number_of, text_member, fault_value, status_members}
 
@@ -20,7 +20,7 @@ abbrev pub mode_value : Option ℕ → Json
 mode_value None = null
 mode_value (Some mode) = string (mode_digits mode)
 
--- what stands before the findings: the name of the file, its mode, and how many entries and holes there are
+-- what comes before the findings: the name of the file, its mode, and how many entries and holes there are
 unfoldable pub check_members : List ℕ → Option ℕ → Counts → List Member
 check_members file mode counts =
     (codes "file", string file)

@@ -1,4 +1,4 @@
--- The text of a value, in which no control character stands as it is.
+-- The text of a value, in which each control character is escaped.
 use Rattle.std.specs.Prelude.{ℕ, ◌==◌, List, [], ◌∷◌, ◌++◌, codes, Bool, ◌&&◌, ◌||◌, if◌then◌else◌, nat_le}
 use Rattle.hex.specs.Hex.{encode_lower}
 use Rattle.json.specs.Json.{Json}

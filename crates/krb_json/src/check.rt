@@ -10,7 +10,8 @@ ghost use Rattle.krb_json.specs.Members.{object_of};
 ghost use Rattle.krb_json.specs.Pieces.{Adds, Begins, IsPlain, head_tokens};
 
 use crate::elements::Elements;
-use krb_audit::{ABOUT_ENTRIES, CheckUp, Finding, Marked, is_open_file};
+use krb_audit::{CheckUp, Marked, is_open_file};
+use krb_findings::{ABOUT_ENTRIES, Finding};
 use krb_files::{OutFault, Watched};
 use krb_wire::NoMemory;
 use std::alloc::Allocator;

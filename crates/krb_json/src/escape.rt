@@ -1,4 +1,4 @@
-//! Escapes the control characters that stand as they are in JSON: 7f, and U+0080 to U+009F.
+//! Escapes the control characters that JSON allows as they are: 7f, and U+0080 to U+009F.
 
 ghost use Rattle.std.specs.Prelude.{◌≡◌, ℕ, List, ◌∷◌, ◌++◌, IfOk, OnOk};
 ghost use Rattle.std.specs.List.{list_any};

@@ -4,14 +4,15 @@ ghost use Rattle.std.specs.Prelude.{◌≡◌, ◌++◌, [], ◌∷◌, OnOk, co
 ghost use Rattle.json.specs.Token.{begin_object};
 ghost use Rattle.json.specs.Json.{string};
 ghost use Rattle.json.specs.Tree.{json_tokens, MembersHaveNumbers};
-ghost use Rattle.krb_audit.specs.Table.{row_of};
+ghost use Rattle.krb_findings.specs.Table.{row_of};
 ghost use Rattle.krb_json.specs.Check.{check_members, finding_value, first_members, about_members, missing_value};
 ghost use Rattle.krb_json.specs.Members.{members_of, object_of};
 ghost use Rattle.krb_json.specs.Pieces.{member_tokens, tokens_of, IsPlain};
 
 use crate::piece::Piece;
 use crate::put::Label;
-use krb_audit::{Counts, Finding};
+use krb_audit::Counts;
+use krb_findings::Finding;
 use krb_keytab::EntryView;
 use krb_wire::NoMemory;
 use std::alloc::Allocator;

@@ -12,7 +12,7 @@ use crate::put::Label;
 use krb_wire::{Name, NoMemory};
 use std::alloc::Allocator;
 
-/// What an overview tells of a cache, beside its file name and its default principal.
+/// What an overview shows of a cache, beside its file name and its default principal.
 #[derive(Clone, Copy)]
 pub struct CacheSummary {
     /// The number of tickets.

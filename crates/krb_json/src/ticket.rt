@@ -60,7 +60,7 @@ impl<A: Allocator> Piece<A> {
         self.number("flags_value", flags as u64)
     }
 
-    // Writes its own enctype, the name of that, and the kvno, or null for what it does not tell.
+    // Writes its own enctype, the name of that, and the kvno, or null for what it does not have.
     #[tactic(auto, unfolding(crate::specs::Cache::encryption_members))]
     fn encryption(&mut self, encryption: Option<TicketEncryption>) -> Result<(), NoMemory>
         ensures tokens { OnOk result (self.new ≡ self.old ++ tokens_of (encryption_members encryption)) }

@@ -11,7 +11,7 @@ use Rattle.krb_ktutil.proofs.KtutilDue.{Came-due, line_lasts, makes_due, makes_l
 -- ---- what is left
 
 -- a run was printed and reported after its prompt
-record Told {F : Type 0} (prompts : Bool) (out : List ℕ) (report : DueReport) (old new : Talk F) : Type 0 where
+record IsShown {F : Type 0} (prompts : Bool) (out : List ℕ) (report : DueReport) (old new : Talk F) : Type 0 where
   asked : ErrorWatch
   status : ℕ
   prompted : Prompts prompts report.prompt old.err asked
@@ -20,16 +20,16 @@ record Told {F : Type 0} (prompts : Bool) (out : List ℕ) (report : DueReport) 
   worst : new.status ≡ max old.status status
 
 module _ {F : Type 0} (trait : Ghosts F) (prompts : Bool) where
-  module _ (out : List ℕ) (report : DueReport) (old mid : Talk F) (told : Told prompts out report old mid) where
+  module _ (out : List ℕ) (report : DueReport) (old mid : Talk F) (shown : IsShown prompts out report old mid) where
     -- what is due after the following lines was left
     leaves_first : (due : TalkDue) (new : Talk F) → LeavesDue trait prompts due mid new → LeavesDue trait prompts (due_after out report due) old new
     leaves_first due new leaves =
         record {
           files = leaves.files;
-          out = Appends-trans old.out.contents mid.out.contents new.out.contents out due.out told.printed leaves.out;
-          worst = max told.status leaves.worst;
-          err = (told.asked, mid.err, told.status, leaves.worst, (told.prompted, (told.reported, (leaves.err, refl))));
-          status = omega (arith, told.worst, leaves.status);
+          out = Appends-trans old.out.contents mid.out.contents new.out.contents out due.out shown.printed leaves.out;
+          worst = max shown.status leaves.worst;
+          err = (shown.asked, mid.err, shown.status, leaves.worst, (shown.prompted, (shown.reported, (leaves.err, refl))));
+          status = omega (arith, shown.worst, leaves.status);
         }
 
     -- no line follows
@@ -37,10 +37,10 @@ module _ {F : Type 0} (trait : Ghosts F) (prompts : Bool) where
     leaves_last files same =
         record {
           files = same;
-          out = told.printed;
-          worst = max told.status 0;
-          err = (told.asked, mid.err, told.status, 0, (told.prompted, (told.reported, ((refl, refl), refl))));
-          status = omega (arith, told.worst);
+          out = shown.printed;
+          worst = max shown.status 0;
+          err = (shown.asked, mid.err, shown.status, 0, (shown.prompted, (shown.reported, ((refl, refl), refl))));
+          status = omega (arith, shown.worst);
         }
 
   -- the output may have failed
@@ -105,8 +105,8 @@ module _ {F : Type 0} (trait : Ghosts F) (prompts : Bool) (now number : ℕ) (li
   line_comes h = comes_by h (makes_due trait old.state new.state old.files handles.made handles.effect handles.quits (plan_of old.state now number line) handles.makes h) (handles.honest h)
 
   -- what is due was printed and reported
-  told_due : LineDue → IsFalse new.out.failed → (goes_on handles.quits handles.end.ending ≡ goes_on due.quits (run_of due.effect).ending) × Told prompts (run_of due.effect).out (line_report old.state.awaiting number due.effect) old new
-  told_due is well =
+  shown_due : LineDue → IsFalse new.out.failed → (goes_on handles.quits handles.end.ending ≡ goes_on due.quits (run_of due.effect).ending) × IsShown prompts (run_of due.effect).out (line_report old.state.awaiting number due.effect) old new
+  shown_due is well =
       let f = handles.finishes in
       let end = handles.end in
       let spares = subst (Spares old.state new.state) is.0.effect_is handles.spares in
@@ -121,20 +121,20 @@ module _ {F : Type 0} (trait : Ghosts F) (prompts : Bool) (now number : ℕ) (li
           reported = record {
             details = f.details;
             reported = subst (λ (e : Ending). Reports (about due.effect) (Some number) f.details e asked new.err end.status) done.1 reported;
-            untold = λ other. f.told ∙ ap (λ (b : Bool). if b && not (is_spent end.ending) then trait.aftermath new.files else None) (ap is_save is.0.effect_is ∙ other);
+            untold = λ other. f.left_behind ∙ ap (λ (b : Bool). if b && not (is_spent end.ending) then trait.aftermath new.files else None) (ap is_save is.0.effect_is ∙ other);
           };
           worst = handles.worst;
         },
       )
 
   -- that memory ran out was reported
-  told_spent : LineSpent → IsFalse new.out.failed → (handles.end.ending ≡ Err NoMemory) × Told prompts [] (final_report old.state.awaiting (ends_by NoMemory)) old new
-  told_spent spent well =
+  shown_spent : LineSpent → IsFalse new.out.failed → (handles.end.ending ≡ Err NoMemory) × IsShown prompts [] (final_report old.state.awaiting (ends_by NoMemory)) old new
+  shown_spent spent well =
       let f = handles.finishes in
       let end = handles.end in
       let done = (subst (ShowsEnd old.out new.out end.ending) spent.1.1 f.shown).done well in
       let left = λ (b : Bool). if b then trait.aftermath new.files else None in
-      let untold = f.told ∙ ap (λ (e : Ending). left (is_save handles.effect && not (is_spent e))) done.1 ∙ ap left (and-false (is_save handles.effect)) in
+      let untold = f.left_behind ∙ ap (λ (e : Ending). left (is_save handles.effect && not (is_spent e))) done.1 ∙ ap left (and-false (is_save handles.effect)) in
       let reported = subst (λ (e : Ending). Reports (about f.left) (Some number) f.details e asked new.err end.status) done.1 f.reported in
       let bare = subst (λ (a : Option Aftermath). Reports (about f.left) (Some number) (record f.details { aftermath = a }) (Err NoMemory) asked new.err end.status) untold reported in (
         done.1,
@@ -173,14 +173,14 @@ module _ {F : Type 0} (trait : Ghosts F) (prompts : Bool) (now : ℕ) (final : R
       inl (count-trans (trait.failure_count old.files) (trait.failure_count mid.files) (trait.failure_count new.files) (handles_lasts trait prompts now number line old mid asked prompted continues.handles).1 le counts)
   line_honestly number line more old mid new asked prompted continues le comes (inr (inl failed)) = inr (inl failed)
   line_honestly number line more old mid new asked prompted continues le (inl is) (inr (inr leaves)) =
-      let told = told_due trait prompts now number line old mid asked prompted continues.handles is continues.well in
+      let shown = shown_due trait prompts now number line old mid asked prompted continues.handles is continues.well in
       let came = due trait prompts now number line old mid asked prompted continues.handles in
       let after = subst (λ (m : FileMap). LeavesDue trait prompts (talk_due final now (number + 1) more came.state m) mid new) (fun_ext is.1.1)
       (subst (λ (s : KtutilState). LeavesDue trait prompts (talk_due final now (number + 1) more s (trait.file mid.files)) mid new) is.0.state_is leaves) in
-      inr (inr (rw (sym told.0 ∙ continues.goes_on) (leaves_first trait prompts (run_of came.effect).out (line_report old.state.awaiting number came.effect) old mid told.1 _ new after)))
+      inr (inr (rw (sym shown.0 ∙ continues.goes_on) (leaves_first trait prompts (run_of came.effect).out (line_report old.state.awaiting number came.effect) old mid shown.1 _ new after)))
   line_honestly number line more old mid new asked prompted continues le (inr (inl counted)) (inr (inr leaves)) = inl (count-more (trait.failure_count old.files) (trait.failure_count mid.files) (trait.failure_count new.files) le counted)
   line_honestly number line more old mid new asked prompted continues le (inr (inr spent)) (inr (inr leaves)) =
-      let ending_is = (told_spent trait prompts now number line old mid asked prompted continues.handles spent continues.well).0 in
+      let ending_is = (shown_spent trait prompts now number line old mid asked prompted continues.handles spent continues.well).0 in
       absurd (false≢true (sym (and-false (not continues.handles.quits)) ∙ (rw ending_is at continues.goes_on)))
 
   -- lines were run, and what is due after the following lines was left
@@ -204,8 +204,8 @@ module _ {F : Type 0} (trait : Ghosts F) (prompts : Bool) (now : ℕ) (final : R
       let came = due trait prompts now number line last new asked prompted stops.handles in
       elim stops.why [
         | inl ended ↦ unless_failed trait prompts _ last new new.out.failed refl (λ well.
-            let told = told_due trait prompts now number line last new asked prompted stops.handles is well in
-            rw (sym told.0 ∙ ended) (leaves_last trait prompts (run_of came.effect).out (line_report last.state.awaiting number came.effect) last new told.1 (files_after (trait.file last.files) came.effect) is.1.1))
+            let shown = shown_due trait prompts now number line last new asked prompted stops.handles is well in
+            rw (sym shown.0 ∙ ended) (leaves_last trait prompts (run_of came.effect).out (line_report last.state.awaiting number came.effect) last new shown.1 (files_after (trait.file last.files) came.effect) is.1.1))
         | inr failed ↦ inr (inl failed)
       ]
 
@@ -225,9 +225,9 @@ module _ {F : Type 0} (trait : Ghosts F) (prompts : Bool) (now : ℕ) (given : O
   }
 
   -- no line follows, and that is reported
-  leaves_final : (final : Run) (end : Talk F) → GivesLines given (lines ++ []) final → end.files ≡ last.files → Told prompts final.out (final_report last.state.awaiting final) last end → trait.is_honest first.files → TalksHonestly trait prompts now given first end
-  leaves_final final end gives same told honest =
-      leaves_after final [] end gives (rw same (omega arith)) (inr (inr (leaves_last trait prompts final.out (final_report last.state.awaiting final) last end told (trait.file last.files) (λ name. ap (λ (x : F). trait.file x name) same)))) honest
+  leaves_final : (final : Run) (end : Talk F) → GivesLines given (lines ++ []) final → end.files ≡ last.files → IsShown prompts final.out (final_report last.state.awaiting final) last end → trait.is_honest first.files → TalksHonestly trait prompts now given first end
+  leaves_final final end gives same shown honest =
+      leaves_after final [] end gives (rw same (omega arith)) (inr (inr (leaves_last trait prompts final.out (final_report last.state.awaiting final) last end shown (trait.file last.files) (λ name. ap (λ (x : F). trait.file x name) same)))) honest
 
   pub honest_after : (err' : ErrorWatch) → Prompts prompts (last_prompt last.state.awaiting) last.err err' → AreLines given (lines ++ []) → trait.is_honest first.files → TalksHonestly trait prompts now given first (record last { err = err' })
   honest_after err' prompted all =
@@ -273,6 +273,6 @@ module _ {F : Type 0} (trait : Ghosts F) (prompts : Bool) (now : ℕ) (given : O
         | inr fails ↦ leaves_after (ends_by NoMemory) [] end (GivesLines-unread load.NoMemory (are_first given lines (line ∷ rest.0) all)) le (elim fails [
           | inl counted ↦ inl counted
           | inr spent ↦ unless_failed trait prompts _ last end end.out.failed refl (λ well. leaves_last trait prompts [] (final_report last.state.awaiting (ends_by NoMemory)) last end
-              (told_spent trait prompts now number line last end asked prompted handles spent well).1 (trait.file last.files) spent.0)
+              (shown_spent trait prompts now number line last end asked prompted handles spent well).1 (trait.file last.files) spent.0)
         ]) honest
       ]

@@ -5,7 +5,7 @@ use Rattle.std.specs.Str.{bytes_eq, is_utf8}
 use Rattle.krb_wire.specs.Names.{name_text}
 use Rattle.krb_wire.specs.Spelling.{Parts}
 use Rattle.krb_wire.specs.Reading.{◌>>=◌}
-use Rattle.krb_text.specs.declared.columns.KtColumns.{KtColumns}
+use Rattle.krb_keytab_text.specs.declared.columns.KtColumns.{KtColumns}
 use Rattle.krb_text.specs.declared.line_fault.LineFault.{LineFault}
 use Rattle.krb_text.specs.declared.line_fault.LineFault.TheVariants.{UnknownWord, WordCount, BadSlot, BadFileName}
 use Rattle.krb_ktutil.specs.declared.ktutil.verb.Verb.{Verb}

@@ -25,7 +25,7 @@ use Rattle.krb_driver.specs.FileNames.{bare_name, has_type, is_other_type}
 use Rattle.krb_driver.specs.Loading.{keytab_of, keytab_or_new, result_map}
 use Rattle.krb_driver.specs.RunErrors.{no_keytab_error}
 use Rattle.krb_audit.specs.Findings.{hides_added}
-use Rattle.krb_text.specs.Listing.{slot_text}
+use Rattle.krb_keytab_text.specs.Listing.{slot_text}
 use Rattle.krb_text.specs.Word.{key_word}
 use Rattle.krb_ktutil.specs.KtutilCommand.{fault_error, is_word, trimmed, words, Awaited, Command, Skip, ListSlots, ReadFile, WriteFile, AwaitKey, DeleteSlot, ClearList, Quit, asks_for_password, command_of}
 use Rattle.krb_walk.specs.declared.refusal.Refusal.{Refusal}
@@ -97,13 +97,13 @@ pub record Added : Type 0 where
   pub keytab : KeytabState
   pub places : List ℕ
 
--- the verdict of the save of a keytab with these entries, some of which MIT's programs do not see
+-- the verdict of the save of a keytab with these entries, if `hidden` is the place from which on MIT's programs see none
 abbrev pub verdict_by : List PlacedEntry → Option ℕ → Verdict
 verdict_by [] hidden = NoEntry
 verdict_by (entry ∷ others) None = Well
 verdict_by (entry ∷ others) (Some place) = HiddenFrom place
 
--- that of a keytab to which entries were added: it has no entry, or from some place on MIT's programs see none, if one that was added is among those
+-- the verdict of `wkt`: well, no entry, or an added entry hidden from MIT's programs from a place on
 abbrev pub saved_verdict : Added → Verdict
 saved_verdict x = verdict_by (placed_entries x.keytab) (hides_added x.keytab x.places)
 

@@ -110,7 +110,7 @@ module _ {F : Type 0} (trait : Ghosts F) (now : ℕ) where
         × Continues number line (record old { err = asked }) between × TalksOver (number + 1) lines between new
 
     module _ (input input' : Source) (lines : List (List ℕ)) (last end : Talk F) where
-      -- the input has these lines and no more; a newline follows the prompt that stands there
+      -- the input has these lines and no more; a newline follows the last prompt
       pub record EndsAfterLines : Type 0 where
         pub all : IfSome input.left (λ bytes. lines_of bytes ≡ lines)
         pub well : input'.failed ≡ input.failed
@@ -208,7 +208,7 @@ talk_due final now number (line ∷ lines) state files =
     then due_after run.out report (talk_due final now (number + 1) lines came.state (files_after files came.effect))
     else last_due run.out report (files_after files came.effect)
 
--- an ending was reported, with that status, its message whole unless the writer has failed; only a line that ended with its save tells what that left behind
+-- an ending was reported, with that status, its message whole unless the writer has failed; only a line that ended with its save reports what that left behind
 pub record ReportsDue (due : DueReport) (old new : ErrorWatch) (status : ℕ) : Type 0 where
   pub details : Details
   pub reported : Reports due.file due.line details due.ending old new status

@@ -2,3 +2,4 @@
 pub mod Hash
 pub mod Set
 pub mod Marks
+pub mod Twins

@@ -1,6 +1,6 @@
 -- What ktcheck shows of a file, as JSON, and of one that gave no keytab.
 use Rattle.krb_readers.proofs.Cited.{◌≡◌, ℕ, List, [], cond, inr, refl, sym, ap, subst, Bool, true, false, IsFalse, Ok, Err, Appends, CheckParts, EndsAfter, ShowsPage, output_error, verdict_status, Appends-nil, AppendsPrefix-none, Watch, OutFault, Ends, check_json_text, Prints, found_verdict, is_silent, object_page, refused_effect}
-use Rattle.krb_audit.specs.declared.finding_set.FindingSet.{FindingSet}
+use Rattle.krb_findings.specs.declared.finding_set.FindingSet.{FindingSet}
 use Rattle.krb_driver.specs.declared.error.RunError.TheVariants.{NoMemory}
 use Rattle.krb_driver.specs.declared.file_name.FileName.{FileName}
 use Rattle.krb_driver.specs.declared.verdict.Verdict.{Verdict}
@@ -33,12 +33,12 @@ module _ {A : Type 0} (o : CheckOptions A) (explained : FindingSet) (file : List
   -- the object was printed
   pub object-shown : (out out' : Watch) (verdict : Verdict) → IsFalse out.failed → verdict ≡ found_verdict o explained c → is_silent o c ≡ false
       → Prints {T = Unit {0}} out out' (Ok tt) object → ShowsPage out out' (Ok verdict) (object_page o explained file c)
-  object-shown out out' verdict well is told p =
+  object-shown out out' verdict well is prints p =
       ShowsPage-done (object_page o explained file c) out out' (Ok verdict) well p.failed
-      (subst (λ (text : List ℕ). Appends out.contents out'.contents text) (sym (printed false told)) p.ok) (ap Ok is)
+      (subst (λ (text : List ℕ). Appends out.contents out'.contents text) (sym (printed false prints)) p.ok) (ap Ok is)
 
   -- the output failed, or memory ran out, before its end
   pub object-failed : (out out' : Watch) (fault : OutFault) → is_silent o c ≡ false → Prints {T = Unit {0}} out out' (Err fault) object → ShowsPage out out' (Err (output_error fault)) (object_page o explained file c)
-  object-failed out out' fault told p =
-      subst (λ (text : List ℕ). ShowsPage out out' (Err (output_error fault)) (record { out = text; ending = Ok (found_verdict o explained c); takes = true })) (sym (printed false told))
+  object-failed out out' fault prints p =
+      subst (λ (text : List ℕ). ShowsPage out out' (Err (output_error fault)) (record { out = text; ending = Ok (found_verdict o explained c); takes = true })) (sym (printed false prints))
       (ShowsPage-failed (Unit {0}) (record { out = object; ending = Ok (found_verdict o explained c); takes = true }) out out' fault refl (line-some _) p.prefix p.failed)

@@ -10,8 +10,8 @@ use Rattle.krb_ccache.specs.Store.{CacheState, store_of as cache_store, PlacedCr
 use Rattle.krb_files.specs.Plan.{Ends}
 use Rattle.krb_json.specs.Cache.{cache_json_text}
 use Rattle.krb_json.specs.Keytab.{keytab_json_text}
-use Rattle.krb_text.specs.declared.columns.KtColumns.{KtColumns}
-use Rattle.krb_text.specs.Listing.{list_text}
+use Rattle.krb_keytab_text.specs.declared.columns.KtColumns.{KtColumns}
+use Rattle.krb_keytab_text.specs.Listing.{list_text}
 use Rattle.krb_cache_text.specs.declared.columns.CcColumns.{CcColumns}
 use Rattle.krb_cache_text.specs.Listing.{cache_text}
 use Rattle.krb_readers.specs.declared.klist.words.KlistOptions.{KlistOptions}

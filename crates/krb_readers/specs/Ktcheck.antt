@@ -7,12 +7,12 @@ use Rattle.std.specs.Vec.{vec_items}
 use Rattle.krb_keytab.specs.Store.{KeytabState}
 use Rattle.krb_files.specs.declared.files.Files.{Ghosts}
 use Rattle.krb_files.specs.Plan.{Ends}
-use Rattle.krb_audit.specs.declared.finding.Finding.{Finding}
-use Rattle.krb_audit.specs.declared.finding.TheConstants.{FINDINGS}
-use Rattle.krb_audit.specs.declared.finding_set.FindingSet.{FindingSet}
+use Rattle.krb_findings.specs.declared.finding.Finding.{Finding}
+use Rattle.krb_findings.specs.declared.finding.TheConstants.{FINDINGS}
+use Rattle.krb_findings.specs.declared.finding_set.FindingSet.{FindingSet}
 use Rattle.krb_audit.specs.CheckUp.{CheckParts, checked, findings_of, is_wrong, uncounted}
 use Rattle.krb_audit.specs.Report.{report}
-use Rattle.krb_audit.specs.Table.{joined, none, only_if, row_of, without}
+use Rattle.krb_findings.specs.Table.{joined, none, only_if, row_of, without}
 use Rattle.krb_json.specs.Check.{check_json_text, refused_json_text}
 use Rattle.krb_driver.specs.declared.command.RunEnd.{RunEnd}
 use Rattle.krb_driver.specs.declared.command.World.{World}

@@ -7,7 +7,7 @@ use Rattle.krb_keytab.specs.Find.{PlacedEntry, find_result}
 use Rattle.krb_keytab.specs.Store.{KeytabState}
 use Rattle.krb_files.specs.Plan.{Ends}
 use Rattle.krb_text.specs.Etype.{etype_in}
-use Rattle.krb_text.specs.Listing.{found_line}
+use Rattle.krb_keytab_text.specs.Listing.{found_line}
 use Rattle.krb_text.specs.Numbers.{number_in}
 use Rattle.krb_readers.specs.declared.ktfind.FindOptions.{FindOptions}
 use Rattle.krb_driver.specs.declared.error.RunError.TheVariants.{Refused}

@@ -19,7 +19,7 @@ use krb_driver::{
 use krb_files::{Files, OutFault, Watched, put};
 use krb_json::{cache_json, keytab_json};
 use krb_keytab::Keytab;
-use krb_text::{KtColumns, list_keytab};
+use krb_keytab_text::{KtColumns, list_keytab};
 use std::alloc::Allocator;
 use std::io::{Read, Write};
 

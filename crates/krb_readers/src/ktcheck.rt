@@ -9,7 +9,7 @@ ghost use Rattle.krb_readers.specs.Ktcheck.{ChecksAll, aged_by, check_page, expl
 
 use crate::ktcheck::page::{CheckObject, CheckPage, check_lines};
 use crate::ktcheck::words::CheckOptions;
-use krb_audit::FindingSet;
+use krb_findings::FindingSet;
 use krb_driver::{
     FileError, FileName, Made, MakeResult, OverFiles, RunEnd, RunError, Verdict, World, end_before,
     run_over, try_keytab,

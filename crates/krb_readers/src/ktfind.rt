@@ -12,7 +12,8 @@ use krb_driver::{
 };
 use krb_files::Files;
 use krb_keytab::Keytab;
-use krb_text::{found_text, parse_u32};
+use krb_keytab_text::found_text;
+use krb_text::parse_u32;
 use krb_wire::{Order, Principal};
 use std::alloc::{Allocator, Global};
 use std::io::{Read, Write};

@@ -6,7 +6,7 @@ use Rattle.std.specs.List.{find}
 abbrev pub units : List (ℕ × List ℕ)
 units = (31536000, codes " y") ∷ (86400, codes " d") ∷ (3600, codes " h") ∷ (60, codes " min") ∷ []
 
--- the unit of some seconds: the greatest of which they have two at least, else the second
+-- the unit of some seconds: the greatest that fits twice or more, else the second
 abbrev pub unit_of : ℕ → ℕ × List ℕ
 unit_of n = unwrap_or (find (λ unit. nat_le (2 * unit.0) n) units) (1, codes " s")
 

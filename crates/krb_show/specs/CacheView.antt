@@ -8,7 +8,7 @@ use Rattle.krb_ccache.specs.Credential.{CredParts}
 use Rattle.krb_ccache.specs.Config.{is_config}
 use Rattle.krb_ccache.specs.Ticket.{ticket_encryption}
 use Rattle.krb_ccache.specs.Store.{CacheState, PlacedCredential, store_of, placed_credentials}
-use Rattle.krb_text.specs.Listing.{fault_line}
+use Rattle.krb_text.specs.FaultLine.{fault_line}
 use Rattle.krb_show.specs.Ago.{ago, time_cell}
 use Rattle.krb_show.specs.Columns.{counted, table}
 use Rattle.krb_show.specs.EtypeNames.{encryption_cell, etype_cell}

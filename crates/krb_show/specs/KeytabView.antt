@@ -12,7 +12,7 @@ use Rattle.krb_walk.specs.Store.{fault_of}
 use Rattle.krb_keytab.specs.Entry.{EntryParts}
 use Rattle.krb_keytab.specs.Find.{PlacedEntry, placed_entries}
 use Rattle.krb_keytab.specs.Store.{KeytabState, store_of}
-use Rattle.krb_text.specs.Listing.{fault_line}
+use Rattle.krb_text.specs.FaultLine.{fault_line}
 use Rattle.krb_audit.specs.Newest.{is_old}
 use Rattle.krb_audit.specs.Rows.{first_number}
 use Rattle.krb_show.specs.Ago.{time_cell}

@@ -16,7 +16,7 @@ const HOUR: u32 = 3600;
 
 const MINUTE: u32 = 60;
 
-// Returns the greatest unit of which there are two at least, or the second: its seconds, and the end of a text in it.
+// Returns the greatest unit that fits twice or more, or the second: its seconds, and the end of a text in it.
 fn unit_of(seconds: u32) -> (u32, &'static [u8])
     ensures seconds { result.0 ≡ (unit_of seconds).0 }
     ensures word { result.1.now ≡ (unit_of seconds).1 }

@@ -15,7 +15,7 @@ use krb_wire::NoMemory;
 use std::alloc::Allocator;
 use std::collections::BTreeSet;
 
-// At most so many types are shown.
+// At most this many types are shown.
 const MAX_SHOWN: usize = 8;
 
 // Returns each number once, where it comes first.

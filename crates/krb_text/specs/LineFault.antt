@@ -1,9 +1,11 @@
 -- Faults of lines that are read.
-use Rattle.std.specs.Prelude.{◌≡◌, ℕ, List, codes, Result, Ok, Err, IsOk}
+use Rattle.std.specs.Prelude.{◌≡◌, ℕ, List, ◌++◌, codes, decimal, Result, Ok, Err, IsOk}
 use Rattle.krb_text.specs.declared.line_fault.LineFault.{LineFault}
 use Rattle.krb_text.specs.declared.line_fault.LineFault.TheVariants.{UnknownWord, WordCount, BadNumber, BadEtype, BadKey, BadName, BadSlot, BadFileName}
 use Rattle.krb_text.specs.declared.line_fault.LineRefusal.{LineRefusal}
 use Rattle.krb_text.specs.declared.line_fault.LineRefusal.TheVariants.{Fault, NoMemory}
+use Rattle.krb_text.specs.declared.line_fault.ScriptRefusal.{ScriptRefusal}
+use Rattle.krb_text.specs.declared.line_fault.ScriptRefusal.TheVariants as script
 
 -- the number that is printed for a fault
 abbrev pub line_fault_number : LineFault → ℕ
@@ -38,6 +40,11 @@ ktutil_phrase fault = line_phrase fault
 abbrev pub refusal_phrase : LineRefusal → List ℕ
 refusal_phrase (Fault fault) = line_phrase fault
 refusal_phrase NoMemory = codes "out of memory"
+
+-- the message for a script that is refused
+abbrev pub refusal_text : ScriptRefusal → List ℕ
+refusal_text (script.Fault line kind) = codes "line " ++ decimal line ++ codes ": " ++ line_phrase kind
+refusal_text script.NoMemory = codes "out of memory"
 
 -- reading gives this value, seen by `view`, or this fault; it may run out of memory only if there is no fault
 abbrev pub Reads : {T V : Type 0} → (T → V) → Result V LineFault → Result T LineRefusal → Type 0

@@ -1,9 +1,13 @@
 -- Numbers in decimal.
-use Rattle.std.specs.Prelude.{ℕ, ◌^◌, ◌*◌, ◌-◌, ◌==◌, List, length, take, Bool, ◌&&◌, nat_lt, nat_le, get_or, if◌then◌else◌, Option, None, Some}
+use Rattle.std.specs.Prelude.{ℕ, ◌^◌, ◌*◌, ◌-◌, ◌==◌, List, length, take, Bool, ◌&&◌, nat_lt, nat_le, get_or, if◌then◌else◌, Option, None, Some, ◌++◌, decimal, replicate}
 use Rattle.std.specs.Option.{option_and_then}
 use Rattle.std.specs.List.{list_all}
 use Rattle.std.specs.Char.{is_ascii_digit}
 use Rattle.std.specs.Str.Parse.{digits_value}
+
+-- a number in decimal, right-aligned in four columns
+abbrev pub right_in_4 : ℕ → List ℕ
+right_in_4 n = replicate (4 - length (decimal n)) 32 ++ decimal n
 
 -- one to ten decimal digits
 abbrev pub is_numeral : List ℕ → Bool

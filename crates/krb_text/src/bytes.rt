@@ -2,7 +2,7 @@
 
 ghost use Rattle.std.specs.Prelude.{◌++◌, ◌∷◌, [], decimal};
 ghost use Rattle.krb_wire.specs.Text.{Appended, AppendedPart};
-ghost use Rattle.krb_text.specs.Listing.{right_in_4};
+ghost use Rattle.krb_text.specs.Numbers.{right_in_4};
 
 use itoa::{Buffer, write_digits};
 use krb_wire::NoMemory;

@@ -2,9 +2,11 @@
 
 ghost use Rattle.std.specs.Prelude.{◌≡◌};
 ghost use Rattle.krb_text.specs.declared.line_fault.LineRefusal.TheVariants.{Fault as Faulty, NoMemory as OutOfMemory};
-ghost use Rattle.krb_text.specs.LineFault.{ktutil_phrase, line_fault_number, line_phrase, refusal_phrase};
+ghost use Rattle.krb_text.specs.declared.line_fault.ScriptRefusal.TheVariants.{NoMemory as ScriptHasNoMemory};
+ghost use Rattle.krb_text.specs.LineFault.{ktutil_phrase, line_fault_number, line_phrase, refusal_phrase, refusal_text};
 
 use krb_wire::NoMemory;
+use std::alloc::AllocFailed;
 use std::fmt;
 use thiserror::Error;
 
@@ -102,5 +104,35 @@ impl From<NoMemory> for LineRefusal {
 
     fn from(_refused: NoMemory) -> LineRefusal {
         LineRefusal::NoMemory
+    }
+}
+
+/// Why a script is refused.
+#[derive(Clone, Copy, Debug, PartialEq, Eq, Error)]
+pub enum ScriptRefusal {
+    /// The number of the first faulty line, counted from 1, and its first fault.
+    Fault { line: u64, kind: LineFault },
+    /// An allocation failed.
+    NoMemory,
+}
+
+impl fmt::Display for ScriptRefusal {
+    ghost use Rattle.std.specs.Prelude.{Some};
+
+    ghost output = { λ refusal. Some (refusal_text refusal) };
+
+    fn fmt<W: fmt::Write>(&self, f: &mut fmt::Formatter<W>) -> fmt::Result {
+        match self {
+            ScriptRefusal::Fault { line, kind } => write!(f, "line {line}: {kind}"),
+            ScriptRefusal::NoMemory => f.write_str("out of memory"),
+        }
+    }
+}
+
+impl<T: Drop> From<AllocFailed<T>> for ScriptRefusal {
+    ghost from_gives = { λ _ refusal. refusal ≡ ScriptHasNoMemory };
+
+    fn from(_refused: AllocFailed<T>) -> ScriptRefusal {
+        ScriptRefusal::NoMemory
     }
 }

@@ -30,7 +30,7 @@ abbrev pub user_of : List (List ℕ) → Option ℕ
 user_of [] = None
 user_of (line ∷ lines) = if starts_with nat_eq line (codes "Uid:\t") then first_number (drop 5 line) else user_of lines
 
--- the number of the real user, in what the system tells of a process
+-- the number of the real user, in what the system reports of a process
 abbrev pub user_in : List ℕ → Option ℕ
 user_in status = user_of (pieces 10 status)
 

@@ -16,7 +16,7 @@ use std::{env, fs, io, rt};
 /// The keytab of a host.
 const KEYTAB: &str = "/etc/krb5.keytab";
 
-/// What the system tells of a process. Its user numbers are in the line `Uid:`, first the real one.
+/// What the system reports of a process. Its user numbers are in the line `Uid:`, first the real one.
 const STATUS: &str = "/proc/self/status";
 
 /// A name that no word gives, or why there is none.
@@ -66,7 +66,7 @@ fn first_number(numbers: &[u8]) -> Option<u32>
     }
 }
 
-// Returns the number of the real user, by what the system tells of a process.
+// Returns the number of the real user, by what the system reports of a process.
 fn user_in(status: &[u8]) -> Option<u32>
     ensures { result ≡ user_in status.now }
 {
@@ -110,7 +110,7 @@ fn default_text<R: rt::Files + AllocGlobal>(
     }
 }
 
-// Returns the default name as one that is found, with the command in the reason for which there is none.
+// Returns a default name as a found one; the reason why there is none gets the command's name.
 fn default_name(
     kind: FileKind,
     command: &'static str,

@@ -10,8 +10,8 @@ pub use Rattle.krb_driver.specs.declared.verdict.Verdict.TheVariants.{Well, With
 pub use Rattle.krb_editors.specs.Ccremove.{ended_by, ccremove_plan}
 pub use Rattle.krb_files.specs.Loading.{most_bytes}
 pub use Rattle.krb_keytab.specs.Store.{open_result, image_of, KeytabState, empty}
-pub use Rattle.krb_text.specs.Listing.{list_text}
-pub use Rattle.krb_text.specs.Script.{event_in, script_by}
+pub use Rattle.krb_keytab_text.specs.Listing.{list_text}
+pub use Rattle.krb_keytab_text.specs.Script.{event_in, script_by}
 pub use Rattle.krb_wire.specs.NameOf.{name_of}
 pub use Rattle.krb_wire.specs.declared.format.KtFormat.TheVariants.{V2}
 pub use Rattle.krb_wire.specs.declared.format.Order.TheVariants.{Little}
@@ -23,7 +23,7 @@ pub use Rattle.krb_wire.specs.Spelling.{Parts}
 pub use Rattle.krb_files.specs.Files.{FileMap, loaded, node_of}
 pub use Rattle.krb_text.specs.Etype.{etype_in, etype_text_of, key_size_of, is_weak}
 pub use Rattle.krb_text.specs.Numbers.{number_in, seconds_in}
-pub use Rattle.krb_audit.specs.Table.{none}
+pub use Rattle.krb_findings.specs.Table.{none}
 pub use Rattle.krb_driver.specs.declared.command.RunEnd.{RunEnd}
 pub use Rattle.krb_driver.specs.declared.error.RunError.TheVariants.{NothingSelected, FileNotWritten, NoSuchFile}
 pub use Rattle.krb_driver.specs.declared.file_name.FileName.{FileName}

@@ -35,7 +35,7 @@ check-mode-bits = refl
 
 -- ---- show
 
--- a ticket's own enctype, which may have no name, and its kvno, if it tells one
+-- a ticket's own enctype, which may have no name, and its kvno, if it has one
 ticket-cells : map encryption_cell (Some (record { etype = pos 18; kvno = Some 2 }) ∷ Some (record { etype = pos 23; kvno = None })
     ∷ Some (record { etype = negsuc 127; kvno = None }) ∷ Some (record { etype = pos 65536; kvno = None }) ∷ None ∷ [])
     ≡ codes "aes256 kvno 2" ∷ codes "rc4!" ∷ codes "-128" ∷ codes "65536" ∷ codes "-" ∷ []
@@ -68,7 +68,7 @@ json-odd = refl
 abbrev ended : Ending → RunEnd
 ended end = record { ending = end; status = ending_status end }
 
--- one file is without what is asked for: no file has it if of the other one a message was told before, but not if that was asked
+-- one file is without what is asked for: no file has it if a message was printed about the other one, but not if that was asked
 none-has-it : map (λ end. is_none (seen_after (seen_after seen.None (ended (Ok Without))) (ended end))) (Err (NoSuchFile Word) ∷ Ok Well ∷ Err FileNotWritten ∷ []) ≡ true ∷ false ∷ false ∷ []
 none-has-it = refl
 

@@ -11,7 +11,7 @@ use Rattle.krb_keytab.specs.Rewrite.{keytab_rules}
 use Rattle.krb_ccache.specs.declared.open.CcOpenFault.{CcOpenFault}
 use Rattle.krb_ccache.specs.Rewrite.{cache_rules}
 use Rattle.krb_ccache.specs.Store.{CacheState, open_result as cache_result, image_of as cache_image}
-use Rattle.krb_text.specs.declared.columns.KtColumns.{KtColumns}
+use Rattle.krb_keytab_text.specs.declared.columns.KtColumns.{KtColumns}
 use Rattle.krb_cache_text.specs.declared.columns.CcColumns.{CcColumns}
 use Rattle.krb_cache_text.specs.Listing.{cache_text}
 use Rattle.krb_audit.specs.Selection.{has_selected_kvno}

@@ -1,3 +1,3 @@
 //! Samples of the definitions of the libraries below: bytes, and what they hold, print and become, as theorems. They
-//! stand in `proofs/`, in modules by topic.
+//! are in `proofs/`, in modules by topic.
 #![tactic(auto)]

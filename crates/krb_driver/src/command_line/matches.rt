@@ -25,12 +25,12 @@ pub trait Matches<'a> {
     fn values(&self, name: &str) -> &[&'a str]
         ensures { map (λ word. word.now) result.now ≡ (matched self.now).values name.now };
 
-    /// Returns whether that long name of an option, with its `--`, stands on the line.
+    /// Returns whether that long name of an option, with its `--`, is on the line.
     fn is_long(&self, name: &str) -> bool
         ensures { result ≡ (matched self.now).is_long name.now };
 }
 
-/// Returns an option as it was typed: by its long name if that stands on the line, and otherwise by its letter.
+/// Returns an option as it was typed: by its long name if that is on the line, and otherwise by its letter.
 pub fn typed<'a, M: Matches<'a>>(matches: &M, letter: &'a str, name: &'a str) -> &'a str
     ensures { result.now ≡ typed (M.matched matches.now) letter.now name.now }
 {

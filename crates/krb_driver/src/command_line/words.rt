@@ -1,7 +1,6 @@
 //! The words of a command, as help shows them.
 
-/// A word of a command line: its name, which of an option is its long name, its letter if it has one, the name of its
-/// value, and its help text.
+/// An option: its long name, its letter and the name of its value if it has them, and its help text. Or an operand.
 #[derive(Clone, Copy)]
 pub enum Word {
     Flag(&'static str, char, &'static str),
@@ -32,7 +31,7 @@ pub enum CommandName {
     Hold,
 }
 
-/// A command: which one it is, its name, its help text, its usage, the help text after that, and its words.
+/// A command: its name, its help text, its usage, the help text after that, and its words.
 #[derive(Clone, Copy)]
 pub struct CommandWords {
     pub command: CommandName,

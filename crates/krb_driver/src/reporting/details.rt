@@ -1,4 +1,4 @@
-//! What the calls of a run tell beside their results.
+//! What the calls of a run report beside their results.
 
 ghost use Rattle.std.specs.Prelude.{◌≡◌, None};
 
@@ -7,19 +7,19 @@ use crate::verdict::Verdict;
 use krb_files::{Aftermath, Cause, Files, Watched};
 use std::io::Write;
 
-/// What the calls of a run, or of a line of ktutil, tell beside their results.
+/// What the calls of a run, or of a line of ktutil, report beside their results.
 #[derive(Clone, Copy)]
 pub struct Details<'a> {
     /// Why a call failed, if one did and that is known.
     pub cause: Option<Cause>,
     /// The path at which something that is not ours keeps a save from making its new file, if that is known.
     pub in_the_way: Option<&'a str>,
-    /// What the save left behind, if that is to be told.
+    /// What the save left behind, if that is to be reported.
     pub aftermath: Option<Aftermath>,
 }
 
 impl<'a> Details<'a> {
-    /// Returns the details of calls of which none was a save.
+    /// Returns the details of calls without a save.
     pub fn unsaved(cause: Option<Cause>) -> Details<'a>
         ensures cause { result.cause ≡ cause }
         ensures aftermath { result.aftermath ≡ None }

@@ -2,7 +2,7 @@
 
 ghost use Rattle.std.specs.Prelude.{◌≡◌};
 ghost use Rattle.krb_driver.specs.EndingWords.{ending_words, itemized_words, failure_words, hidden_words_of, reported_words, found_fault_words, found_words, word_line};
-ghost use Rattle.krb_audit.specs.declared.finding.TheConstants.{FINDINGS};
+ghost use Rattle.krb_findings.specs.declared.finding.TheConstants.{FINDINGS};
 ghost use Rattle.krb_driver.specs.Runs.{Adds};
 ghost use Rattle.std.specs.List.{flat_map};
 ghost use Rattle.krb_driver.specs.Messages.{pieces_text};
@@ -18,7 +18,7 @@ use crate::reporting::reported::{Failure, Reported};
 use crate::reporting::words::{error_words, listed_words, refusal_phrase, verdict_words};
 use crate::reporting::writing::{Gathered, add_pieces};
 use crate::verdict::{FileKind, Findings, Verdict};
-use krb_audit::{FINDINGS, Finding, FindingSet};
+use krb_findings::{FINDINGS, Finding, FindingSet};
 use krb_files::Watched;
 use krb_walk::Fault;
 use std::io::Write;

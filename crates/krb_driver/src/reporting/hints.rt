@@ -11,7 +11,7 @@ use crate::reporting::piece::MessagePiece::{self, Number, Text};
 use crate::reporting::piece::{END, NONE};
 use crate::reporting::writing::{Gathered, add_pieces};
 use crate::verdict::Findings;
-use krb_audit::Finding;
+use krb_findings::Finding;
 use krb_files::Watched;
 use krb_text::etype_name;
 use krb_wire::Order;

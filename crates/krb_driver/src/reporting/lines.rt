@@ -86,7 +86,7 @@ pub fn phrase<'a>(line: Option<u64>, text: &'static str) -> Line<'a>
     words(line, Text(text), NONE)
 }
 
-/// Returns whether that is told where no words are shown too.
+/// Returns whether that is reported even if no words are shown.
 pub fn is_message(aftermath: Aftermath) -> bool
     ensures { result ≡ is_message aftermath }
 {

@@ -126,7 +126,7 @@ fn more_pieces(more: More<'_>) -> [MessagePiece<'_>; 3]
     }
 }
 
-// Reports that a command line is bad, what is wrong with it, which help to see, and what follows.
+// Reports a mistake in the command line, the help to see, and a suggestion.
 fn report_mistake<E: Write>(line: BadLine<'_>, err: &mut Watched<E>)
     ensures { Writes err.old err.new (message (codes "bad command line")
         ++ mistake_words line.entry.mistake (option_map (λ name. name.now) line.entry.command) line.entry.more) }

@@ -14,7 +14,7 @@ use crate::verdict::FileKind;
 
 const COLLECTION: &str = "a collection; give one of its caches, DIR::FILE";
 
-// Returns the words that tell where a file's name comes from, if no word of a line gave it; or how a principal is named.
+// Returns the words that say where a file's name comes from, if no word of a line gave it; or how a principal is named.
 fn source_line(source: NameSource) -> &'static str
     ensures { result.now ≡ source_words source }
 {
@@ -27,7 +27,7 @@ fn source_line(source: NameSource) -> &'static str
     }
 }
 
-/// Returns the words for a missing file: ktutil says it once more, and a run tells where a name comes from that it was
+/// Returns the words for a missing file: ktutil says it once more, and a run says where a name comes from that it was
 /// not given.
 pub fn missing_words<'a>(line: Option<u64>, source: NameSource) -> Line<'a>
     ensures { pieces_text result ≡ missing_words line source }

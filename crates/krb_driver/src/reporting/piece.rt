@@ -1,7 +1,7 @@
 //! The pieces of a message.
 
 ghost use Rattle.std.specs.Prelude.{◌≡◌};
-ghost use Rattle.krb_cache_text.specs.Escape.{escaped};
+ghost use Rattle.krb_text.specs.Escape.{escaped};
 ghost use Rattle.krb_driver.specs.Messages.{shown_byte};
 
 use crate::first_word::FirstWord;

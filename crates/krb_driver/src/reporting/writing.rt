@@ -16,7 +16,7 @@ use std::io::Write;
 // The size of the buffer: a message and its words of at most that many bytes go out in one write.
 const ROOM: usize = 4352;
 
-/// What stands in the place of what may be a key.
+/// What is printed in place of what may be a key.
 const HIDDEN: &[u8] = b"a word of hexadecimal digits";
 
 /// A buffer with the part of a message that is not yet written.
@@ -40,7 +40,7 @@ pub fn add<E: Write>(text: &[u8], gathered: &mut Gathered, err: &mut Watched<E>)
     let _ = put(err, text);
 }
 
-// Returns what stands in the place of what may be a key, if there is that.
+// Returns what is printed in place of what may be a key, if there is that.
 fn hidden_if(has_key: bool) -> &'static [u8]
     ensures { result.now ≡ (if has_key then hidden_word else []) }
 {

@@ -49,7 +49,7 @@ fn first_newline(text: &[u8]) -> Option<usize>
     text.iter().position(|byte| *byte == b'\n')
 }
 
-// Returns the length of what stands before the image in a frame, if the text is just one frame.
+// Returns the length of what comes before the image in a frame, if the text is just one frame.
 fn head_len(text: &[u8]) -> Option<usize>
     ensures is { result ≡ head_len text.now }
     ensures within { IfSome result (λ head. head ≤ length text.now) }

@@ -6,7 +6,8 @@ ghost use Rattle.krb_ktutil.specs.KtutilCommand.{words, after, are_none, only, f
 ghost use Rattle.krb_text.specs.Word.{number_word};
 
 use crate::ktutil::words::next_word;
-use krb_text::{KtColumns, LineFault, number_word};
+use krb_keytab_text::KtColumns;
+use krb_text::{LineFault, number_word};
 
 /// Returns whether there is no word.
 pub fn is_bare(rest: &[u8]) -> bool
@@ -83,7 +84,7 @@ fn with_column(columns: KtColumns, option: &[u8]) -> Option<KtColumns>
     }
 }
 
-/// Parses the options of a listing, each of which may be given once.
+/// Parses the options of a listing. Each may be given once.
 pub fn columns(rest: &[u8]) -> Option<KtColumns>
     ensures { result ≡ columns_in plain_columns (words rest.now) }
 {

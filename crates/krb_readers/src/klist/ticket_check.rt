@@ -17,7 +17,7 @@ use std::alloc::Allocator;
 /// What `klist -s` asks of a cache.
 #[derive(Clone, Copy)]
 pub struct TicketCheck {
-    /// A ticket is valid for so many seconds more.
+    /// A ticket is valid for that many seconds more.
     pub seconds: u32,
 }
 

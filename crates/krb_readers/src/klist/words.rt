@@ -9,7 +9,7 @@ use krb_driver::{
     CommandName, CommandWords, FileKind, Matches, Mistake, V1_BIG, Word, refuse_twice, times_given,
     typed, v1_order,
 };
-use krb_text::KtColumns;
+use krb_keytab_text::KtColumns;
 use krb_wire::Order;
 
 /// The words of klist.

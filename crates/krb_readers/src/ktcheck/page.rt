@@ -5,7 +5,8 @@ ghost use Rattle.krb_driver.specs.Commands.{ShowsPage, output_page};
 ghost use Rattle.krb_readers.specs.Ktcheck.{found, found_verdict, is_silent, left_out, lines_of, lines_page, object_page, refused_page};
 
 use crate::ktcheck::words::CheckOptions;
-use krb_audit::{CheckUp, FindingSet, append_report, check_up};
+use krb_audit::{CheckUp, append_report, check_up};
+use krb_findings::FindingSet;
 use krb_driver::{FileName, Findings, Output, RunError, Show, Verdict, append_said, label_of};
 use krb_files::Watched;
 use krb_json::{check_json, refused_json};

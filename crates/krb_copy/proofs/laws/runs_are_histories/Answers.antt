@@ -1,13 +1,13 @@
 use Rattle.krb_copy.proofs.Gone.{goes_by_its_entries}
 use Rattle.krb_copy.proofs.LawHistories.{are_histories}
-use Rattle.krb_copy.proofs.LawRuns.{changes_are_told}
+use Rattle.krb_copy.proofs.LawRuns.{changes_are_reported}
 use Rattle.krb_copy.proofs.laws.runs_are_histories.Goals as goal
 
 pub returns-clause-history : goal.returns-clause-history
 returns-clause-history c = are_histories
 
-pub returns-clause-told : goal.returns-clause-told
-returns-clause-told c = changes_are_told
+pub returns-clause-reported : goal.returns-clause-reported
+returns-clause-reported c = changes_are_reported
 
 pub returns-clause-entries : goal.returns-clause-entries
 returns-clause-entries c = goes_by_its_entries

@@ -1,8 +1,8 @@
 use Rattle.krb_editors.proofs.Cited.{◌≡◌, ◌⊎◌, inl, inr, ℕ, List, sym, ap, ◌∙◌, Result, Ok, Err, RunError, NoMemory, result_map_err, lines_in, line_error, script_error}
 use Rattle.krb_text.specs.declared.line_fault.LineFault.{LineFault}
-use Rattle.krb_text.specs.declared.script.ScriptRefusal.{ScriptRefusal}
-use Rattle.krb_text.specs.declared.script.ScriptRefusal.TheVariants as refusal
-use Rattle.krb_text.specs.Script.{ScriptFault, RefusesScript, script_by}
+use Rattle.krb_text.specs.declared.line_fault.ScriptRefusal.{ScriptRefusal}
+use Rattle.krb_text.specs.declared.line_fault.ScriptRefusal.TheVariants as refusal
+use Rattle.krb_keytab_text.specs.Script.{ScriptFault, RefusesScript, script_by}
 use Rattle.krb_editors.proofs.edited.read_script.Goals as goal
 
 -- a script is refused for its first fault, or memory ran out

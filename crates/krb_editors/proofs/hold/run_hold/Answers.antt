@@ -13,7 +13,7 @@ returns g c = elim c.match-done.branch [
     same = refl;
     details = c.details_of_hold-details.result;
     reported = rw w.in-Ok.is (rw (c.as_bytes.ensures.value, w.ending-is) at c.report-status.ensures);
-    told = c.details_of_hold-details.ensures;
+    left_behind = c.details_of_hold-details.ensures;
     last = c.tell_end.ensures;
   }
   | in-Err w ↦ record {
@@ -24,7 +24,7 @@ returns g c = elim c.match-done.branch [
     same = refl;
     details = c.details_of_hold-details.result;
     reported = rw w.in-Err.is (rw (c.as_bytes.ensures.value, w.ending-is) at c.report-status.ensures);
-    told = c.details_of_hold-details.ensures;
+    left_behind = c.details_of_hold-details.ensures;
     last = c.tell_end.ensures;
   }
 ]

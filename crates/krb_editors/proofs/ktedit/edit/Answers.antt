@@ -19,13 +19,13 @@ returns-clause-made g c =
     let store : c.into_keytab-keytab.result.state ≡ left keytab_rules keytab events = ap (λ (k : InMemory). k.state) (c.into_keytab-keytab.ensures ∙ c.into_store.ensures) ∙ left_begun keytab_rules keytab events old new reported begins ran in
     let image = c.into_image.ensures.spelled ∙ ap image_of store in
     let same = subst (λ (s : SessionState KeytabState). HaveSame c.in_ok-added.added.items (followed_over keytab_rules [] (history keytab_rules s events))) begins c.in_ok-added.ensures.added in
-    let told : c.hidden_from-hidden.result ≡ hidden events keytab =
+    let hides : c.hidden_from-hidden.result ≡ hidden events keytab =
     rw store at c.hidden_from-hidden.ensures
     ∙ ap (hides_added (left keytab_rules keytab events)) c.deref.ensures.value
     ∙ hides_same (left keytab_rules keytab events) c.in_ok-added.added.items (added keytab_rules keytab events) same in
     made_as (λ (file : List ℕ). replied Keytab file (hidden events keytab) reported bytes (reply_texts_by record_tail V2 keytab.format reported)) (λ (file : List ℕ). edits events file keytab)
     (session_made Keytab keytab_rules image_of record_tail (λ (k : KeytabState). k.format) V2 keytab_keeps keytab events reported bytes (ran_begun keytab_rules keytab events old new reported begins ran) image (hidden events keytab))
-    c.replied.result (rw (c.deref-2.ensures.value, c.format-format.ensures, told) at c.replied.ensures)
+    c.replied.result (rw (c.deref-2.ensures.value, c.format-format.ensures, hides) at c.replied.ensures)
 
 -- every walk is given what is due to it
 pub returns-clause-fair : goal.returns-clause-fair

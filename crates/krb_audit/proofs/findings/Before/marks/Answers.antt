@@ -2,7 +2,7 @@ use Rattle.krb_audit.proofs.Cited.{◌≡◌, List, ℕ, cond, Option, Some, ap,
 use Rattle.std.specs.Prelude.{Bool}
 use Rattle.std.specs.Option.{unwrap_or}
 use Rattle.krb_text.specs.Etype.{is_weak}
-use Rattle.krb_audit.specs.declared.finding.Finding.TheVariants.{Weak, Size, Hidden, Same, Clash, Old as OldKey, Aged}
+use Rattle.krb_findings.specs.declared.finding.Finding.TheVariants.{Weak, Size, Hidden, Same, Clash, Old as OldKey, Aged}
 use Rattle.krb_audit.proofs.FindingsLemmas.{ended_here}
 use Rattle.krb_audit.proofs.FirstsLemmas.{alike_here, alike_to, firsts_next, key_in}
 use Rattle.krb_audit.proofs.findings.Before.marks.Goals as goal
@@ -40,6 +40,6 @@ returns g c = λ k wanted before rest known.
         missing = c.in_ok-mark_next.ensures wanted before rest known.missing (ap (first_number x.1.principal) (sym known.all) ∙ next.0);
         firsts = firsts_next all before x first look (looked c.consider.new.self) known.firsts next.0 puts;
         has_ended = c.either-self.ensures ∙ ap (λ (b : Bool). old.has_ended || b) c.ends_mit-ends.ensures ∙ ended_here before x old.has_ended known.has_ended;
-        weak_etypes = c.add.ensures before x known.weak_etypes c.enctype-etype.ensures;
+        weak_etypes = c.add_weak.ensures before x known.weak_etypes c.enctype-etype.ensures;
       },
     )

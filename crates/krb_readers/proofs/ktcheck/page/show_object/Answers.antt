@@ -23,11 +23,11 @@ returns-in_err-check_json g c =
     let file = c.args.file.now in
     let due = found j.options.now j.aged_by j.mode j.keytab.state in
     let is = rw c.deref.ensures.value at c.in_ok-found.ensures in
-    let told = sym (c.is_silent.ensures ∙ ap (is_silent j.options.now) is) ∙ c.if-is_silent.false in
+    let prints = sym (c.is_silent.ensures ∙ ap (is_silent j.options.now) is) ∙ c.if-is_silent.false in
     let verdict = c.verdict_of-verdict.ensures ∙ ap (found_verdict j.options.now j.explained) is in
     let text = ap (λ (d : CheckParts). check_json_text file d c.status.result) is ∙ ap (check_json_text file due) (c.status.ensures ∙ ap verdict_status verdict) in
     let p = err_from_is_err_and c.from_residual-in_err-check_json.result c.from_residual-in_err-check_json.ensures.1 in
-    rw (p.1 ∙ ap Err p.2) (object-failed j.options.now j.explained file due c.args.out.now c.check_json.new.out c.in_err-check_json.field-0.0 told
+    rw (p.1 ∙ ap Err p.2) (object-failed j.options.now j.explained file due c.args.out.now c.check_json.new.out c.in_err-check_json.field-0.0 prints
     (subst (λ (t : List ℕ). Prints {T = Unit {0}} c.args.out.now c.check_json.new.out (Err c.in_err-check_json.field-0.0) t) text c.in_err-check_json.ensures.prints))
 
 pub returns : goal.returns
@@ -36,8 +36,8 @@ returns g c =
     let file = c.args.file.now in
     let due = found j.options.now j.aged_by j.mode j.keytab.state in
     let is = rw c.deref.ensures.value at c.in_ok-found.ensures in
-    let told = sym (c.is_silent.ensures ∙ ap (is_silent j.options.now) is) ∙ c.if-is_silent.false in
+    let prints = sym (c.is_silent.ensures ∙ ap (is_silent j.options.now) is) ∙ c.if-is_silent.false in
     let verdict = c.verdict_of-verdict.ensures ∙ ap (found_verdict j.options.now j.explained) is in
     let text = ap (λ (d : CheckParts). check_json_text file d c.status.result) is ∙ ap (check_json_text file due) (c.status.ensures ∙ ap verdict_status verdict) in
-    object-shown j.options.now j.explained file due c.args.out.now c.check_json.new.out c.verdict_of-verdict.result c.requires verdict told
+    object-shown j.options.now j.explained file due c.args.out.now c.check_json.new.out c.verdict_of-verdict.result c.requires verdict prints
     (subst (λ (t : List ℕ). Prints {T = Unit {0}} c.args.out.now c.check_json.new.out (Ok tt) t) text c.in_ok-check_json.ensures.prints)

@@ -1,5 +1,5 @@
 use Rattle.krb_readers.proofs.Cited.{◌≡◌, drop, map, fold, bad_finding, finding_set, findings}
-use Rattle.krb_audit.specs.Table.{joined}
+use Rattle.krb_findings.specs.Table.{joined}
 use Rattle.krb_driver.specs.Mistakes.{first_mistake}
 use Rattle.krb_readers.proofs.ktcheck.words.findings.Given as goal
 
