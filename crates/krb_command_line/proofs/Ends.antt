@@ -1,5 +1,5 @@
 -- Words without an end.
-use Rattle.krbfile.proofs.Cited.{◌≡◌, ◌-◌, false, true, List, ℕ, Option, None, Some, Bor, length, take, refl, ap, ◌∙◌, arith, MatchOption, option_copied, without_end}
+use Rattle.krb_command_line.proofs.Cited.{◌≡◌, ◌-◌, false, true, List, ℕ, Option, None, Some, Bor, length, take, refl, ap, ◌∙◌, arith, MatchOption, option_copied, without_end}
 use Rattle.std.specs.Str.Pattern.{FindsTextSuffix, StripsSuffix}
 use Rattle.std.proofs.lemmas.Str.Pattern.{ends_text}
 

@@ -11,8 +11,8 @@ use Rattle.clap.specs.declared.builder.action.ArgAction.TheVariants.{Append, Set
 use Rattle.clap.specs.declared.builder.arg.Arg.{Arg}
 use Rattle.clap.specs.declared.builder.command.Command.{Command}
 use Rattle.krb_driver.specs.Mistakes.{MistakeParts, LeftOver, Missing, NeedsValue, NoCommand, Twice, UnknownCommand, UnknownLetter, UnknownOption}
-use Rattle.krbfile.specs.declared.place.Place.{Place}
-use Rattle.krbfile.specs.declared.place.Place.TheVariants.{Any, Operand, Value}
+use Rattle.krb_command_line.specs.declared.place.Place.{Place}
+use Rattle.krb_command_line.specs.declared.place.Place.TheVariants.{Any, Operand, Value}
 
 abbrev pub is_explain : List ℕ → Bool
 is_explain word = bytes_eq word (codes "--explain")
@@ -20,12 +20,6 @@ is_explain word = bytes_eq word (codes "--explain")
 -- a word is an option or a bundle of options: `-` and more
 abbrev pub is_option : List ℕ → Bool
 is_option word = nat_lt 1 (length word) && starts_with nat_eq word (codes "-")
-
--- a word of klist is `--silent`, or a bundle of letters with `s` among them
-abbrev pub is_silent : List ℕ → Bool
-is_silent [] = false
-is_silent (a ∷ []) = false
-is_silent (a ∷ b ∷ letters) = bytes_eq (a ∷ b ∷ letters) (codes "--silent") || ((a == 45) && (not (b == 45) && list_any (λ c. c == 115) (b ∷ letters)))
 
 -- the words after the program's name, and after `--explain` if that comes first
 abbrev pub words_behind : List (String Global) → List (String Global)

@@ -2,11 +2,11 @@
 
 ghost use Rattle.std.specs.Prelude.{◌≡◌, option_copied, option_map};
 ghost use Rattle.krb_driver.specs.Mistakes.{mistake_parts};
-ghost use Rattle.krbfile.specs.Words.{command_name, command_named, command_of, is_named, is_option, mistake_of_help, mistake_of_words, no_command, words_behind};
+ghost use Rattle.krb_command_line.specs.Words.{command_name, command_named, command_of, is_named, is_option, mistake_of_help, mistake_of_words, no_command, words_behind};
 
 use crate::place::mistake_behind;
 use clap::Command;
-use krb_commands::{BadLine, Mistake, More};
+use krb_driver::{BadLine, Mistake, More};
 
 /// Returns whether a word is an option or a bundle of options, if no `--` comes before it.
 pub fn is_option(word: &str) -> bool

@@ -4,11 +4,11 @@ ghost use Rattle.std.specs.Prelude.{◌≡◌, [], ◌∷◌, ◌<◌, length, I
 ghost use Rattle.std.specs.Result.{result_map_both};
 ghost use Rattle.std.specs.Str.{chars};
 ghost use Rattle.krb_driver.specs.Mistakes.{mistake_parts};
-ghost use Rattle.krbfile.specs.Words.{bundled_value, takes_letter_value};
+ghost use Rattle.krb_command_line.specs.Words.{bundled_value, takes_letter_value};
 
 use crate::options::takes_values;
 use clap::Arg;
-use krb_commands::Mistake;
+use krb_driver::Mistake;
 
 // Returns whether the option of that letter takes a value, or `None` if there is none.
 fn takes_letter_value(options: &[Arg<'_>], letter: char) -> Option<bool>

@@ -1,7 +1,7 @@
 //! The command lines, for clap.
 
 use clap::{Arg, ArgAction, Command};
-use krb_commands::{COMMANDS, CommandWords, Word, words_of};
+use krb_driver::{CommandWords, Word};
 use std::alloc::{AllocError, Global};
 
 /// The version, and the toolchain that proves and compiles it.
@@ -77,10 +77,8 @@ fn top_command<'a>(alloc: Global) -> Result<Command<'a>, AllocError> {
 }
 
 // Returns whether a word is the name of a command.
-fn is_command(word: Option<&str>) -> bool {
-    COMMANDS
-        .iter()
-        .any(|command| word == Some(words_of(*command).name))
+fn is_command(lines: &[CommandWords], word: Option<&str>) -> bool {
+    lines.iter().any(|line| word == Some(line.name))
 }
 
 fn with_line<'a>(
@@ -91,15 +89,18 @@ fn with_line<'a>(
     all.subcommand(command_of(alloc, line)?)
 }
 
-/// Returns the command lines: if the word is a command's name, only that command's, so that a run does not build the
-/// others, and otherwise all.
-pub fn krbfile_command<'a>(alloc: Global, word: Option<&str>) -> Result<Command<'a>, AllocError> {
+/// Returns the command lines of the commands: if the word is a command's name, only that command's, so that a run does
+/// not build the others, and otherwise all.
+pub fn krbfile_command<'a>(
+    alloc: Global,
+    lines: &[CommandWords],
+    word: Option<&str>,
+) -> Result<Command<'a>, AllocError> {
     let mut krbfile = top_command(alloc)?;
-    let is_alone = is_command(word);
-    for command in &COMMANDS {
-        let line = words_of(*command);
+    let is_alone = is_command(lines, word);
+    for line in lines {
         if !is_alone || word == Some(line.name) {
-            krbfile = with_line(alloc, krbfile, &line)?;
+            krbfile = with_line(alloc, krbfile, line)?;
         }
     }
     Ok(krbfile)

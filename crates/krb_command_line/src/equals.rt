@@ -1,7 +1,7 @@
 //! Values of short options that begin with `=`.
 
 ghost use Rattle.std.specs.Prelude.{◌≡◌, IfOk, OnOk, map, option_copied, option_map, string_bytes};
-ghost use Rattle.krbfile.specs.Words.{double_equals, doubled, without_end};
+ghost use Rattle.krb_command_line.specs.Words.{double_equals, doubled, without_end};
 
 use crate::bad_line::{command_of, words_behind};
 use crate::bundle::bundled_value;

@@ -2,11 +2,11 @@
 
 ghost use Rattle.std.specs.Prelude.{◌≡◌, IfOk, bytes_eq, option_copied};
 ghost use Rattle.std.specs.Map.{lookup};
-ghost use Rattle.krbfile.specs.Nearest.{elsewhere, nearest};
+ghost use Rattle.krb_command_line.specs.Nearest.{elsewhere, nearest};
 
 use crate::options::before_equals;
 use clap::Command;
-use krb_commands::{COMMANDS, More, words_of};
+use krb_driver::More;
 use std::alloc::{AllocError, Global};
 use strsim::osa_distance;
 
@@ -31,11 +31,11 @@ fn nearest<'a>(alloc: Global, word: &str, names: &[&'a str]) -> Result<Option<&'
     Ok(found)
 }
 
-// Returns the names of the commands.
-fn command_names(alloc: Global) -> Result<Vec<&'static str>, AllocError> {
-    let mut names = vec![in alloc; "help"]?;
-    for command in &COMMANDS {
-        names.push(words_of(*command).name)?;
+// Returns the names of the commands, `help` among them, as clap adds it.
+fn command_names<'a>(alloc: Global, krbfile: &Command<'a>) -> Result<Vec<&'a str>, AllocError> {
+    let mut names = Vec::new(alloc);
+    for command in krbfile.get_subcommands() {
+        names.push(command.get_name())?;
     }
     Ok(names)
 }
@@ -70,11 +70,15 @@ fn command_elsewhere(word: &str) -> Option<&'static str>
 }
 
 /// Returns the command that was meant by a word, if another program calls it that, or one is near.
-pub fn meant_command<'a>(alloc: Global, word: &str) -> Result<More<'a>, AllocError> {
+pub fn meant_command<'a>(
+    alloc: Global,
+    krbfile: &Command<'a>,
+    word: &str,
+) -> Result<More<'a>, AllocError> {
     if let Some(command) = command_elsewhere(word) {
         return Ok(More::MeantCommand(command));
     }
-    let names = command_names(alloc)?;
+    let names = command_names(alloc, krbfile)?;
     match nearest(alloc, word, &names)? {
         Some(name) => Ok(More::MeantCommand(name)),
         None => Ok(More::Nothing),

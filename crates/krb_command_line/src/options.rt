@@ -4,11 +4,11 @@ ghost use Rattle.std.specs.Prelude.{◌≡◌, ◌&&◌, filter, length, option_
 ghost use Rattle.std.specs.List.{before_first, list_any};
 ghost use Rattle.std.specs.Result.{result_map_both};
 ghost use Rattle.krb_driver.specs.Mistakes.{mistake_parts};
-ghost use Rattle.krbfile.specs.Words.{is_equals, is_of_name, is_operand, missing_operand, takes_long_value, takes_values, wants_long, wants_value, with_operand, with_value};
+ghost use Rattle.krb_command_line.specs.Words.{is_equals, is_of_name, is_operand, missing_operand, takes_long_value, takes_values, wants_long, wants_value, with_operand, with_value};
 
 use crate::bundle::bundled_value;
 use clap::{Arg, ArgAction};
-use krb_commands::Mistake;
+use krb_driver::Mistake;
 
 fn is_of_name(option: &Arg<'_>, name: &str) -> bool
     ensures { result ≡ is_of_name name.now option.now }

@@ -4,12 +4,12 @@ ghost use Rattle.std.specs.Prelude.{◌≡◌};
 ghost use Rattle.std.specs.Result.{result_map_both};
 ghost use Rattle.clap.specs.Words.{args_of};
 ghost use Rattle.krb_driver.specs.Mistakes.{mistake_parts};
-ghost use Rattle.krbfile.specs.Words.{mistake_behind, read_word};
+ghost use Rattle.krb_command_line.specs.Words.{mistake_behind, read_word};
 
 use crate::bad_line::is_option;
 use crate::options::{missing_operand, wants_value, with_operand};
 use clap::{Arg, Command};
-use krb_commands::Mistake;
+use krb_driver::Mistake;
 
 /// What the next word may be, after that many operands.
 #[derive(Clone, Copy)]

@@ -1,7 +1,7 @@
 //! Parses the words of a command line.
 
 ghost use Rattle.std.specs.Prelude.{◌≡◌, IfOk, map};
-ghost use Rattle.krbfile.specs.Words.{is_long, long_names};
+ghost use Rattle.krb_command_line.specs.Words.{is_long, long_names};
 
 use crate::bad_line::{bad_line, words_behind};
 use crate::command_lines::krbfile_command;
@@ -10,22 +10,30 @@ use crate::nearest::{meant_command, meant_option};
 use crate::options::before_equals;
 use clap::error::ErrorKind;
 use clap::{ArgMatches, Command, Error};
-use krb_commands::{
-    Action, BadLine, COMMANDS, FINDINGS, Matches, Mistake, More, WordFault, action_of, words_of,
-};
+use krb_audit::FINDINGS;
+use krb_driver::{BadLine, CommandWords, Matches, Mistake, More, WordFault};
 use std::alloc::{AllocError, Global};
 
 /// The matches of clap for a command's words.
 #[derive(Drop)]
-struct Matched<'m, 'a> {
-    found: &'m ArgMatches<'a>,
+pub struct Matched<'a> {
+    found: ArgMatches<'a>,
     /// The values of an absent option: none.
-    none: &'m [&'a str],
+    none: Vec<&'a str>,
     /// The long names of options on the line, each with its `--`.
-    long: &'m [&'a str],
+    long: Vec<&'a str>,
 }
 
-impl<'a> Matches<'a> for Matched<'_, 'a> {
+/// What a command line requests.
+#[derive(Drop)]
+pub enum Request<'a> {
+    /// A help text, or the version.
+    Help(String),
+    /// A command with those words.
+    Command(CommandWords, Matched<'a>),
+}
+
+impl<'a> Matches<'a> for Matched<'a> {
     ghost use Rattle.std.specs.Prelude.{[], codes, false, map, option_map, unwrap_or};
     ghost use Rattle.std.specs.Option.{option_map_or};
     ghost use Rattle.std.specs.List.{list_any};
@@ -33,10 +41,10 @@ impl<'a> Matches<'a> for Matched<'_, 'a> {
     ghost use Rattle.clap.specs.Words.{first_value, found_of, matched_of, raw_values};
 
     ghost matched = { λ m. record {
-      flag = λ name. option_map_or (λ word. bytes_eq word (codes "true")) (first_value (found_of m.found.now) name) false;
-      operand = λ name. unwrap_or (first_value (found_of m.found.now) name) [];
-      values = λ name. unwrap_or (option_map raw_values (matched_of (found_of m.found.now) name)) (map (λ word. word.now) m.none.now);
-      is_long = λ name. list_any (λ word. bytes_eq word.now name) m.long.now;
+      flag = λ name. option_map_or (λ word. bytes_eq word (codes "true")) (first_value (found_of m.found) name) false;
+      operand = λ name. unwrap_or (first_value (found_of m.found) name) [];
+      values = λ name. unwrap_or (option_map raw_values (matched_of (found_of m.found) name)) (map (λ word. word.now) m.none.items);
+      is_long = λ name. list_any (λ word. bytes_eq word.now name) m.long.items;
     } };
 
     fn flag(&self, name: &str) -> bool {
@@ -54,7 +62,7 @@ impl<'a> Matches<'a> for Matched<'_, 'a> {
     }
 
     fn values(&self, name: &str) -> &[&'a str] {
-        self.found.get_strs(name).unwrap_or(self.none)
+        self.found.get_strs(name).unwrap_or(&self.none)
     }
 
     fn is_long(&self, name: &str) -> bool {
@@ -85,23 +93,18 @@ fn long_names<'a>(alloc: Global, words: &'a [String]) -> Result<Vec<&'a str>, Al
     Ok(names)
 }
 
-// Returns the action that a command and its words request.
-fn command_action<'a>(
+// Returns the command that the words request, with them.
+fn matched_command<'a>(
     alloc: Global,
-    matches: &ArgMatches<'a>,
+    lines: &[CommandWords],
+    mut matches: ArgMatches<'a>,
     words: &'a [String],
-) -> Result<Action<'a>, WordFault<'a>> {
-    let none = Vec::new(alloc);
+) -> Result<Request<'a>, WordFault<'a>> {
     let long = long_names(alloc, words)?;
-    for command in &COMMANDS {
-        let line = words_of(*command);
-        if let Some(found) = matches.subcommand_matches(line.name) {
-            let matched = Matched {
-                found,
-                none: &none,
-                long: &long,
-            };
-            return action_of(alloc, line.command, line.name, &matched);
+    if let Some((name, found)) = matches.remove_subcommand() {
+        if let Some(line) = lines.iter().find(|line| line.name == name) {
+            let none = Vec::new(alloc);
+            return Ok(Request::Command(*line, Matched { found, none, long }));
         }
     }
     Err(WordFault::from(Mistake::NoCommand))
@@ -119,7 +122,7 @@ fn more_of<'a>(
             *help = krbfile.render_help()?;
             Ok(More::Help(help.as_str()))
         }
-        (Mistake::UnknownCommand(word), _) => meant_command(alloc, word),
+        (Mistake::UnknownCommand(word), _) => meant_command(alloc, krbfile, word),
         (Mistake::UnknownOption(word), Some(name)) => match krbfile.find_subcommand(name) {
             Some(command) => meant_option(alloc, command, word),
             None => Ok(More::Nothing),
@@ -150,12 +153,12 @@ fn without_matches<'a>(
     command: &mut Command<'a>,
     words: &'a [String],
     help: &'a mut String,
-) -> Result<Action<'a>, WordFault<'a>> {
+) -> Result<Request<'a>, WordFault<'a>> {
     match error.kind() {
         ErrorKind::OutOfMemory => Err(WordFault::NoMemory),
         // Requested help, or the version, is no error.
         ErrorKind::DisplayHelp | ErrorKind::DisplayVersion => {
-            Ok(Action::Help(with_findings(alloc, format!(in alloc; "{error}")?)?))
+            Ok(Request::Help(with_findings(alloc, format!(in alloc; "{error}")?)?))
         }
         _ => {
             let line = bad_line(command, words);
@@ -165,19 +168,20 @@ fn without_matches<'a>(
     }
 }
 
-/// Returns the action that the words request; the first word is the program's name. `help` is for a help text that a
-/// fault shows.
+/// Returns what the words request of those commands; the first word is the program's name. `help` is for a help text
+/// that a fault shows.
 pub fn parse_words<'a>(
     alloc: Global,
+    lines: &[CommandWords],
     words: &'a mut [String],
     help: &'a mut String,
-) -> Result<Action<'a>, WordFault<'a>> {
+) -> Result<Request<'a>, WordFault<'a>> {
     let word = words_behind(words).first();
-    let mut command = krbfile_command(alloc, word.map(|word| word.as_str()))?;
+    let mut command = krbfile_command(alloc, lines, word.map(|word| word.as_str()))?;
     double_equals(alloc, &command, words)?;
     let words: &'a [String] = words;
     match command.try_get_matches_from_mut(words) {
-        Ok(matches) => command_action(alloc, &matches, words),
+        Ok(matches) => matched_command(alloc, lines, matches, words),
         Err(error) => without_matches(alloc, &error, &mut command, words, help),
     }
 }

@@ -1,6 +1,6 @@
-use Rattle.krbfile.proofs.Cited.{◌≡◌, length, bundled_value, value_in, shadow, Utf8}
+use Rattle.krb_command_line.proofs.Cited.{◌≡◌, length, bundled_value, value_in, shadow, Utf8}
 use Rattle.std.specs.Str.{chars}
-use Rattle.krbfile.proofs.bundle.bundled_value.Given as goal
+use Rattle.krb_command_line.proofs.bundle.bundled_value.Given as goal
 
 -- the letters to come have the value of all letters
 abbrev pub invariant-letters : goal.invariant-letters

@@ -1,7 +1,7 @@
 use Rattle.std.proofs.Common.{arith, drop, string_bytes, take}
 use Rattle.std.proofs.lemmas.Grind.{common_steps}
 use Rattle.std.proofs.lemmas.List.{map-append, set-get_or, take-append-drop}
-use Rattle.krbfile.proofs.equals.double_equals.Goals as goal
+use Rattle.krb_command_line.proofs.equals.double_equals.Goals as goal
 
 pub returns-then-eq : goal.returns-then-eq
 returns-then-eq c =

@@ -1,5 +1,5 @@
-use Rattle.krbfile.proofs.Cited.{◌≡◌, ◌++◌, drop, map, string_bytes, take, double_equals, doubled_words}
-use Rattle.krbfile.proofs.equals.double_equals.Given as goal
+use Rattle.krb_command_line.proofs.Cited.{◌≡◌, ◌++◌, drop, map, string_bytes, take, double_equals, doubled_words}
+use Rattle.krb_command_line.proofs.equals.double_equals.Given as goal
 
 -- the words so far, and what those to come become
 abbrev pub invariant-words : goal.invariant-words

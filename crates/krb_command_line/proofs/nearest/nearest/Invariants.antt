@@ -1,6 +1,6 @@
-use Rattle.krbfile.proofs.Cited.{◌≡◌, drop, fold}
-use Rattle.krbfile.specs.Nearest.{nearer, nearest}
-use Rattle.krbfile.proofs.nearest.nearest.Given as goal
+use Rattle.krb_command_line.proofs.Cited.{◌≡◌, drop, fold}
+use Rattle.krb_command_line.specs.Nearest.{nearer, nearest}
+use Rattle.krb_command_line.proofs.nearest.nearest.Given as goal
 
 -- the names to come leave the nearest of all
 abbrev pub invariant-loop-name : goal.invariant-loop-name

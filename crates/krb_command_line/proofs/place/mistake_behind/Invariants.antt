@@ -1,6 +1,6 @@
-use Rattle.krbfile.proofs.Cited.{◌≡◌, drop, mistake_after, mistake_behind, shadow, Utf8}
+use Rattle.krb_command_line.proofs.Cited.{◌≡◌, drop, mistake_after, mistake_behind, shadow, Utf8}
 use Rattle.clap.specs.Words.{args_of}
-use Rattle.krbfile.proofs.place.mistake_behind.Given as goal
+use Rattle.krb_command_line.proofs.place.mistake_behind.Given as goal
 
 -- the words to come have the mistake of all words
 abbrev pub invariant-words : goal.invariant-words

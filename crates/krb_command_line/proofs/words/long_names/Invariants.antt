@@ -1,5 +1,5 @@
-use Rattle.krbfile.proofs.Cited.{◌≡◌, ◌++◌, drop, map, long_names}
-use Rattle.krbfile.proofs.words.long_names.Given as goal
+use Rattle.krb_command_line.proofs.Cited.{◌≡◌, ◌++◌, drop, map, long_names}
+use Rattle.krb_command_line.proofs.words.long_names.Given as goal
 
 -- the names so far and those to come are all names
 abbrev pub invariant-words : goal.invariant-words
