@@ -44,7 +44,7 @@ SHARED = lib/libkrbfile.so.1
 LINKER_NAME = lib/libkrbfile.so
 KIT = $(dir $(shell rt doc))
 SOURCES = crates.txt $(shell find crates/*/src crates/*/specs crates/*/proofs -type f)
-VERSION := $(shell sed -n 's/^const VERSION: &str = "\([^ "]*\).*/\1/p' crates/krbfile/src/command_lines.rt)
+VERSION := $(shell sed -n 's/^const VERSION: &str = "\([^ "]*\).*/\1/p' crates/krb_command_line/src/command_lines.rt)
 NAME = krbfile-$(VERSION)-linux-x86_64
 PACKED = $(DIST)/$(NAME).tar.gz
 PARTS = $(PACKED).parts

@@ -8,7 +8,6 @@ mod response;
 
 pub use action::{Action, KtutilOptions, action_of, at_terminal};
 pub use commands::{COMMANDS, words_of};
-pub use krb_findings::FINDINGS;
 pub use krb_driver::{
     BadLine, CommandName, CommandWords, ErrorOutput, FileKind, FileName, Matches, Mistake, More,
     NameSource, NotKeytab, Word, WordFault, World,

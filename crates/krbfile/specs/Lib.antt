@@ -1,4 +1,3 @@
 -- What the contracts of the program say.
 pub mod DefaultNames
-pub mod Nearest
-pub mod Words
+pub mod Silence

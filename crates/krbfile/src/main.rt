@@ -3,16 +3,8 @@
 
 ghost use Rattle.std.specs.Prelude.{◌≡◌};
 
-mod bad_line;
-mod bundle;
-mod command_lines;
 mod default_name;
-mod equals;
-mod nearest;
-mod options;
-mod place;
 mod run;
-mod words;
 
 use krb_commands::{ErrorOutput, Needs, World, at_terminal, needs_of};
 use krb_disk::DiskFiles;

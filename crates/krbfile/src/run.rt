@@ -2,11 +2,14 @@
 
 ghost use Rattle.std.specs.Prelude.{◌≡◌, ◌↔◌, ℕ, IsTrue, Option, bytes_eq, codes};
 ghost use Rattle.krb_commands.specs.Actions.{DefaultName, EndsParsed};
-ghost use Rattle.krbfile.specs.Words.{is_silent};
+ghost use Rattle.krbfile.specs.Silence.{is_silent};
 
 use crate::default_name::{FoundName, found_name};
-use crate::words::parse_words;
-use krb_commands::{Action, Mistake, Needs, WordFault, World, respond, words_of as command_words};
+use krb_command_line::{Request, parse_words};
+use krb_commands::{
+    Action, COMMANDS, Mistake, Needs, WordFault, World, action_of, respond,
+    words_of as command_words,
+};
 use krb_files::{Files, Watched, put};
 use std::alloc::Global;
 use std::env::FillError;
@@ -96,9 +99,13 @@ pub fn parsed<'a>(
     words: &'a mut Result<Vec<String>, WordFault<'static>>,
     help: &'a mut String,
 ) -> Result<Action<'a>, WordFault<'a>> {
-    match words {
-        Ok(words) => parse_words(alloc, words, help),
-        Err(fault) => Err(*fault),
+    let words = match words {
+        Ok(words) => words,
+        Err(fault) => return Err(*fault),
+    };
+    match parse_words(alloc, &COMMANDS.map(command_words), words, help)? {
+        Request::Help(text) => Ok(Action::Help(text)),
+        Request::Command(line, matched) => action_of(alloc, line.command, line.name, &matched),
     }
 }
 

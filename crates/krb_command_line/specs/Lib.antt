@@ -1,0 +1,3 @@
+-- What the contracts of this crate say.
+pub mod Nearest
+pub mod Words
