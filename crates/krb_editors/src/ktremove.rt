@@ -6,7 +6,7 @@ ghost use Rattle.krb_driver.specs.Several.{label_of};
 ghost use Rattle.krb_driver.specs.Commands.{text_effect, IsMade};
 ghost use Rattle.krb_driver.specs.declared.verdict.FileKind.TheVariants.{Keytab as OfKeytab};
 ghost use Rattle.krb_editors.specs.Removing.{RemovesWith};
-ghost use Rattle.krb_editors.specs.Ktremove.{SpellsKvno, SpellsRemoval, kvno_mistake, ktremove_plan, needed_time, none_verdict, odd_selection, remove_mistake, removes, with_age};
+ghost use Rattle.krb_editors.specs.Ktremove.{SpellsKvno, SpellsRemoval, kvno_mistake, ktremove_plan, needed_time, none_verdict, odd_selection, remove_mistake, removes};
 ghost use Rattle.krb_driver.specs.Mistakes.{Reads, Refuses, Spells};
 
 use crate::missing_files::is_one_missing;
@@ -89,23 +89,12 @@ fn refuse_unselected<'a, M: Matches<'a>>(matches: &M) -> Result<(), Mistake<'a>>
     }
 }
 
-// Returns the same kvnos, old ones only if they have been replaced for that many seconds.
-fn with_age(kvno: SelectedKvno, age: Option<u32>) -> SelectedKvno
-    ensures { result ≡ with_age age kvno }
-{
-    match (kvno, age) {
-        (SelectedKvno::Old, Some(seconds)) => SelectedKvno::OldFor(seconds),
-        _ => kvno,
-    }
-}
-
 // Returns the kvnos that `-k` and `--age` select.
 fn removed_kvno<'a, M: Matches<'a>>(matches: &M) -> Result<SelectedKvno, Mistake<'a>>
     ensures { Spells (kvno_mistake (M.matched matches.now)) (SpellsKvno (M.matched matches.now)) result }
 {
-    let kvno = spelled_kvno(matches, "old", SelectedKvno::Old)?;
     let age = spelled_seconds(matches, "age")?;
-    Ok(with_age(kvno, age))
+    spelled_kvno(matches, "old", SelectedKvno::Old(age))
 }
 
 /// Returns the options of ktremove. Refuses a line that selects nothing, `-k` or `--age` given twice, `--age` without
@@ -140,10 +129,10 @@ struct RemoveEntries<'f, B: Allocator> {
 fn needed_time(kvno: SelectedKvno, now: Option<u32>) -> Result<u32, RunError>
     ensures { result ≡ needed_time kvno now }
 {
-    match (kvno, now) {
-        (SelectedKvno::OldFor(_), Some(now)) => Ok(now),
-        (SelectedKvno::OldFor(_), None) => Err(RunError::ClockNotRead),
-        _ => Ok(0),
+    if kvno.needs_clock() {
+        now.ok_or(RunError::ClockNotRead)
+    } else {
+        Ok(0)
     }
 }
 
@@ -156,7 +145,7 @@ fn none_verdict<B: Allocator>(
     ensures { result ≡ none_verdict are_several selection.now is_named }
 {
     let is_any = selection.names.is_empty() && selection.enctypes.is_empty();
-    let is_old = matches!(selection.kvno, SelectedKvno::Old | SelectedKvno::OldFor(_));
+    let is_old = matches!(selection.kvno, SelectedKvno::Old(_));
     if is_old && (is_any || is_named) {
         Verdict::Well
     } else if are_several {
