@@ -11,7 +11,7 @@ pub use commands::{COMMANDS, words_of};
 pub use krb_audit::FINDINGS;
 pub use krb_driver::{
     BadLine, CommandName, CommandWords, ErrorOutput, FileKind, FileName, Matches, Mistake, More,
-    NameSource, NotKeytab, Word, WordFault, World,
+    NameSource, NotKeytab, Phrase, Word, WordFault, World,
 };
 pub use krb_editors::{
     CopyOptions, DiffOptions, HoldKind, RemoveOptions, TicketOptions, run_ccedit, run_ccremove,

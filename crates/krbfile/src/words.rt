@@ -11,7 +11,7 @@ use crate::options::before_equals;
 use clap::error::ErrorKind;
 use clap::{ArgMatches, Command, Error};
 use krb_commands::{
-    Action, BadLine, COMMANDS, FINDINGS, Matches, Mistake, More, WordFault, action_of, words_of,
+    Action, BadLine, COMMANDS, FINDINGS, Matches, More, Phrase, WordFault, action_of, words_of,
 };
 use std::alloc::{AllocError, Global};
 
@@ -104,7 +104,7 @@ fn command_action<'a>(
             return action_of(alloc, line.command, line.name, &matched);
         }
     }
-    Err(WordFault::from(Mistake::NoCommand))
+    Err(WordFault::from(Phrase::WITHOUT_COMMAND.of("")))
 }
 
 // Returns what follows the line of a mistake. The text of a help is kept in `help`.
@@ -114,14 +114,14 @@ fn more_of<'a>(
     line: &BadLine<'a>,
     help: &'a mut String,
 ) -> Result<More<'a>, AllocError> {
-    match (line.mistake, line.command) {
-        (Mistake::NoCommand, _) => {
+    match (line.mistake.phrase, line.command) {
+        (Phrase::WITHOUT_COMMAND, _) => {
             *help = krbfile.render_help()?;
             Ok(More::Help(help.as_str()))
         }
-        (Mistake::UnknownCommand(word), _) => meant_command(alloc, word),
-        (Mistake::UnknownOption(word), Some(name)) => match krbfile.find_subcommand(name) {
-            Some(command) => meant_option(alloc, command, word),
+        (Phrase::UNKNOWN_COMMAND, _) => meant_command(alloc, line.mistake.word),
+        (Phrase::UNKNOWN_OPTION, Some(name)) => match krbfile.find_subcommand(name) {
+            Some(command) => meant_option(alloc, command, line.mistake.word),
             None => Ok(More::Nothing),
         },
         _ => Ok(More::Nothing),
