@@ -21,7 +21,7 @@ use Rattle.krb_driver.specs.declared.verdict.FileKind.TheVariants.{Keytab}
 use Rattle.krb_driver.specs.declared.verdict.Verdict.{Verdict}
 use Rattle.krb_driver.specs.declared.verdict.Verdict.TheVariants.{Well, NothingToRemove, Without}
 use Rattle.krb_driver.specs.Commands.{CommandPlan, Effect, Displays, holds, opens, saves_unless, text}
-use Rattle.krb_driver.specs.Mistakes.{Matched, bad_seconds, first_value, twice, v1_order, MistakeParts, NothingSelects, OnlyWith}
+use Rattle.krb_driver.specs.Mistakes.{Matched, bad_seconds, first_value, twice, v1_order, MistakeParts, nothing_selects, only_with}
 use Rattle.krb_driver.specs.Loading.{whole_in}
 use Rattle.krb_driver.specs.Several.{label_of}
 use Rattle.krb_editors.specs.Selecting.{IsSpelledKvno, SpellsCriteria, asks_for_any, bad_criteria, bad_kvno}
@@ -65,8 +65,8 @@ is_old_word (Some word) = bytes_eq word (codes "old")
 -- an age goes with another selection than old kvnos, or nothing selects
 abbrev pub odd_selection : Matched → Option MistakeParts
 odd_selection words =
-    if nat_lt 0 (length (words.values (codes "age"))) && not (is_old_word (first_value words (codes "kvno"))) then Some (OnlyWith (codes "--age") (codes "-k old"))
-    else (if (length (words.values (codes "principal")) == 0) && ((length (words.values (codes "kvno")) == 0) && (length (words.values (codes "enctype")) == 0)) then Some (NothingSelects (codes "-p, -k or -e"))
+    if nat_lt 0 (length (words.values (codes "age"))) && not (is_old_word (first_value words (codes "kvno"))) then Some (only_with (codes "--age") (codes "-k old"))
+    else (if (length (words.values (codes "principal")) == 0) && ((length (words.values (codes "kvno")) == 0) && (length (words.values (codes "enctype")) == 0)) then Some (nothing_selects (codes "-p, -k or -e"))
     else None)
 
 -- the old kvnos, with the age that is given

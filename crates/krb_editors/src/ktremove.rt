@@ -15,9 +15,9 @@ use crate::selecting::{OF_ENCTYPE, OF_PRINCIPAL, spelled_kvno, spelled_selection
 use krb_audit::{Selected, SelectedKvno, Selection, select};
 use krb_driver::{
     CommandName, CommandWords, DRY_RUN, FileError, FileKind, FileName, IN_PLACE, Made, MakeResult,
-    Matches, Mistake, Output, OverFiles, RunEnd, RunError, V1_BIG, Verdict, Word, WordFault, World,
-    end_before, first_value, hold_if, label_of, open_whole, refuse_twice, run_over,
-    spelled_seconds, times_given, v1_order,
+    Matches, Mistake, Output, OverFiles, Phrase, RunEnd, RunError, V1_BIG, Verdict, Word,
+    WordFault, World, end_before, first_value, hold_if, label_of, open_whole, refuse_twice,
+    run_over, spelled_seconds, times_given, v1_order,
 };
 use krb_files::Files;
 use krb_keytab::Keytab;
@@ -81,9 +81,9 @@ fn refuse_unselected<'a, M: Matches<'a>>(matches: &M) -> Result<(), Mistake<'a>>
     let names = times_given(matches, "principal");
     let kvnos = times_given(matches, "kvno");
     if times_given(matches, "age") > 0 && first_value(matches, "kvno") != Some("old") {
-        Err(Mistake::OnlyWith("--age", "-k old"))
+        Err(Phrase::ONLY_WITH.of_both("--age", "-k old"))
     } else if names == 0 && kvnos == 0 && times_given(matches, "enctype") == 0 {
-        Err(Mistake::NothingSelects("-p, -k or -e"))
+        Err(Phrase::NOTHING_SELECTS.of("-p, -k or -e"))
     } else {
         Ok(())
     }
