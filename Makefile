@@ -53,7 +53,7 @@ MODULE = $(wildcard python/krbfile/*.py) python/krbfile/py.typed
 DOCUMENTS = README.md CHANGELOG.md SECURITY.md
 EXAMPLES = $(wildcard examples/*)
 # The pages that README names, and the calls that the library's manual page names.
-LINKED := $(filter-out docs/%,$(shell grep -o '[a-z]*/[a-zA-Z_/]*\.md' README.md))
+LINKED := CONTRIBUTING.md $(filter-out docs/%,$(shell grep -o '[a-z]*/[a-zA-Z_/]*\.md' README.md))
 CALLS := $(sort $(shell sed -n 's/^\.Fn \(krbf_[a-z_]*\).*/\1/p' docs/krbfile.3))
 PAGES = $(DOCUMENTS) $(wildcard docs/*) $(EXAMPLES) $(MODULE) $(LINKED) completions/generate c/krbfile.h c/krbfile.pc.in \
 	python/pyproject.toml.in tests/selftest
