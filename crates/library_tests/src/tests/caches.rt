@@ -1,7 +1,7 @@
 //! Calls of caches.
 
-use super::made::{HIGH_KEY, name_of};
 use super::in_each_heap;
+use super::made::{HIGH_KEY, name_of};
 use krb_ccache::{Ccache, Cred};
 use krb_walk::Refusal;
 use krb_wire::Limits;
