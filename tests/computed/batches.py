@@ -94,7 +94,8 @@ def refusals(rows: dict[int, tuple[Case, str]], are_sources: bool) -> dict[int, 
     """Returns why rows are refused, by number: the definitions compute something else."""
     with tempfile.TemporaryDirectory(prefix="krbfile-") as folder:
         write(folder, modules_of(rows))
-        words = [*compiler.command("check", "corpus_samples", 1, NAME, are_sources), "--only", "computes"]
+        as_sources = compiler.below("corpus_samples") if are_sources else ()
+        words = [*compiler.command("check", "corpus_samples", 1, NAME, as_sources), "--only", "computes"]
         done = subprocess.run(words, cwd=folder, stdin=subprocess.DEVNULL, stdout=subprocess.PIPE,
                               stderr=subprocess.STDOUT, text=True, errors="replace", check=False)
     found = {int(number): why for number, why in REFUSED.findall(done.stdout)}

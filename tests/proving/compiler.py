@@ -7,7 +7,7 @@ commands of `rt` would prove each of them again.
 import os
 import re
 import subprocess
-from collections.abc import Iterable
+from collections.abc import Collection, Iterable
 from dataclasses import dataclass
 from functools import cache
 from pathlib import Path
@@ -53,9 +53,9 @@ def kit() -> str:
 
 
 @cache
-def crates() -> dict[str, tuple[str, list[str]]]:
+def crates(top: str = TOP) -> dict[str, tuple[str, list[str]]]:
     """Returns the kind of each crate, empty or `staticlib`, and the libraries that it uses."""
-    rows = re.findall(r"^(\w+) ?(\w*):([^#\n]*)", Path(TOP, "crates.txt").read_text("utf-8"), re.M)
+    rows = re.findall(r"^(\w+) ?(\w*):([^#\n]*)", Path(top, "crates.txt").read_text("utf-8"), re.M)
     return {name: (kind, uses.split()) for name, kind, uses in rows}
 
 
@@ -72,6 +72,11 @@ def below(crate: str) -> set[str]:
     return {*used, *(lower for it in used for lower in below(it))}
 
 
+def is_whole(path: str) -> bool:
+    """Whether all of a library is there: `rt ci` may write it file by file, this one last."""
+    return os.path.isfile(os.path.join(path, "toolchain", "mir.json"))
+
+
 def is_proved(crate: str) -> bool:
     """Whether a crate and the libraries that it uses were proved."""
     return all(map(os.path.isdir, map(library, [crate, *below(crate)])))
@@ -83,29 +88,24 @@ def root_of(crate: str) -> str:
     return "src/main.rt" if is_program else "src/lib.rt"
 
 
-def libraries(crate: str) -> list[str]:
-    """Returns the options that name the libraries that a crate uses, as they were proved."""
-    own, all_below = dict.fromkeys(["std", *crates()[crate][1]]), ["std", *sorted(below(crate))]
-    return [*(word for it in own for word in ("--extern", f"{it}={library(it)}")),
-            *(word for it in all_below for word in ("-L", f"dependency={os.path.dirname(library(it))}"))]
+def libraries(crate: str, as_sources: Collection[str]) -> list[str]:
+    """Returns the options that name the libraries that a crate uses: some as sources, where nothing need be proved,
+    the others as they were proved."""
+    uses = {it: ["std", *crates()[it][1]] for it in [crate, *sorted(as_sources)]}
+    named = dict.fromkeys(each for those in uses.values() for each in those if each not in as_sources)
+    proved = ["std", *sorted(below(crate).difference(as_sources))]
+    folders = dict.fromkeys(os.path.dirname(library(it)) for it in proved)
+    return [*(word for it in named for word in ("--extern", f"{it}={library(it)}")),
+            *(word for it in folders for word in ("-L", f"dependency={it}")),
+            *(word for it in uses if it != crate for word in (
+                "--lib", f"{it}:{','.join(uses[it])}={os.path.join(TOP, 'crates', it, 'src', 'lib.rt')}"))]
 
 
-def sources(crate: str) -> list[str]:
-    """Returns the options that name those libraries as sources. Nothing of them need be proved."""
-    own = crates()[crate][1]
-    words, of_kit = ["-L", f"dependency={os.path.join(kit(), 'rlibs')}"], {"std", *own} - set(crates())
-    for it in sorted(below(crate)):
-        uses = crates()[it][1]
-        words += ["--lib", f"{it}:{','.join(['std', *uses])}={os.path.join(TOP, 'crates', it, 'src', 'lib.rt')}"]
-        of_kit.update(set(uses) - set(crates()))
-    return [*words, *(word for it in sorted(of_kit) for word in ("--extern", f"{it}={library(it)}"))]
-
-
-def command(verb: str, crate: str, jobs: int, name: str = "", are_sources: bool = False) -> list[str]:
+def command(verb: str, crate: str, jobs: int, name: str = "", as_sources: Collection[str] = ()) -> list[str]:
     """Returns the command that checks or builds a crate, in its folder or in a copy of it, or another of that name."""
     kind, _ = crates()[crate]
     words = [os.path.join(kit(), "bin", "rattle"), verb, "--crate-name", name or crate, root_of(crate)]
-    words += sources(crate) if are_sources else libraries(crate)
+    words += libraries(crate, as_sources)
     words += ["--antt-project", os.path.join(kit(), "rattle", "logic", "antt-project.json")]
     words += ["--logic-built", os.path.join(kit(), "logic_built")]
     words += ["--links", f"{name or crate}=", "--jobs", str(jobs)]
@@ -142,15 +142,9 @@ def clauses_of(output: str) -> dict[str, list[str]]:
     return found
 
 
-def of_functions(crate: str, only: Iterable[str], kept: str, are_sources: bool = False) -> list[str]:
-    """Returns the command that checks functions of a crate and those that they call, and keeps in `kept` what is proved."""
-    words = [*command("check", crate, 1, are_sources=are_sources), "--incremental", kept]
-    return [*words, *(word for function in only for word in ("--only", function))]
-
-
 def check_functions(crate: str, folder: str, only: Iterable[str], kept: str) -> Answer:
     """Checks functions of the crate in a folder. Stores what is proved in `kept`, for later checks of the crate."""
-    words = of_functions(crate, only, kept)
+    words = [*command("check", crate, 1), "--incremental", kept, *(f"--only={function}" for function in only)]
     done = subprocess.run(words, cwd=folder, stdin=subprocess.DEVNULL, stdout=subprocess.PIPE,
                           stderr=subprocess.STDOUT, text=True, errors="replace", check=False)
     rejected = REJECTED.search(done.stdout)

@@ -20,7 +20,7 @@ pub use Rattle.krb_audit.specs.Rows.{first_number, AreRows, AreNumbered, HasPlac
 pub use Rattle.krb_names.specs.Hash.{HashedName, hash_of, name_cmp}
 pub use Rattle.krb_audit.specs.Selection.{has_selected_kvno, is_named, is_young, AsksFor, has_text}
 pub use Rattle.krb_audit.specs.declared.rows.Row.{Row}
-pub use Rattle.krb_audit.specs.declared.selection.SelectedKvno.TheVariants.{OldFor, Old, Exactly, Any, Newest}
+pub use Rattle.krb_audit.specs.declared.selection.SelectedKvno.TheVariants.{Old, Exactly, Any, Newest}
 pub use Rattle.krb_audit.specs.declared.newest.Stamp.{Stamp}
 pub use Rattle.krb_keytab.specs.CellViews.{cell_of, cells_of, CellsFrom, BeginsWith}
 pub use Rattle.krb_keytab.specs.Cells.{size, Free, Cell}

@@ -2,7 +2,6 @@
 use Rattle.krb_audit.proofs.Cited.{◌≡◌, ℕ, ◌+◌, ◌≤◌, true, List, [], ◌∷◌, Some, refl, arith, eq-eqb, eqb-true, Parts, have_same_name, PlacedEntry, first_number, ◌==◌, first_from}
 use Rattle.krb_names.proofs.SameNames.{same_equiv}
 
-
 -- names that are the same have the same first entry
 pub first_alike : (n : ℕ) (p q : Parts) (xs : List PlacedEntry) → have_same_name p q ≡ true → first_from n p xs ≡ first_from n q xs
 first_alike n p q [] e = refl

@@ -1,5 +1,5 @@
 -- Which entries have a selected kvno, from the rows.
-use Rattle.krb_audit.proofs.Cited.{◌≡◌, arith, ℕ, Bool, false, cond, List, [], ◌∷◌, map, replicate, Option, refl, ap, sym, ◌∙◌, ◌&&◌, ◌||◌, ◌==◌, not, fold, list_any, All, Parts, have_same_name, PlacedEntry, Row, Stamp, is_old, AreRows, HasPlace, has_selected_kvno, AreNewest, selects_row, or-false, Any, Exactly, Newest, Old, OldFor, is_young, AreMarks, AreYoung, is_old_row, is_young_row}
+use Rattle.krb_audit.proofs.Cited.{◌≡◌, arith, ℕ, Bool, false, cond, List, [], ◌∷◌, map, replicate, Option, refl, ap, sym, ◌∙◌, ◌&&◌, ◌||◌, ◌==◌, not, fold, list_any, All, Parts, have_same_name, PlacedEntry, Row, Stamp, is_old, AreRows, HasPlace, has_selected_kvno, AreNewest, selects_row, or-false, Any, Exactly, Newest, Old, Some, is_young, AreMarks, AreYoung, is_old_row, is_young_row}
 use Rattle.krb_audit.specs.declared.selection.SelectedKvno.{SelectedKvno}
 use Rattle.krb_audit.proofs.NewestStamps.{at_name, old_row}
 use Rattle.krb_audit.proofs.RowLemmas.{IsRow, map_rows, stepped}
@@ -14,7 +14,7 @@ any_folded : (young : PlacedEntry → Bool) (p : Parts) (xs : List PlacedEntry) 
 any_folded young p [] b = sym (or-false b)
 any_folded young p (x ∷ xs) b = grind (arith, any_folded young p xs)
 
-pub are_young : (now seconds : ℕ) (xs : List PlacedEntry) (rows : List Row) (len : ℕ) (newest : List (Option Stamp)) → AreRows xs xs rows → All (HasPlace len) rows → AreNewest xs newest → AreYoung (OldFor seconds) now xs (fold (marked now seconds newest) (replicate len false) rows)
+pub are_young : (now seconds : ℕ) (xs : List PlacedEntry) (rows : List Row) (len : ℕ) (newest : List (Option Stamp)) → AreRows xs xs rows → All (HasPlace len) rows → AreNewest xs newest → AreYoung (Old (Some seconds)) now xs (fold (marked now seconds newest) (replicate len false) rows)
 are_young now seconds xs rows len newest are places stamps p i first =
     at_name (λ (b : Bool) (r : Row). b || is_young_row now seconds newest r) (λ (b : Bool) (x : PlacedEntry). b || (is_young now seconds x.1 && not (is_old xs x.1))) false xs rows len p i are places
     (λ b r x is. ap (λ (s : Stamp). b || (is_young now seconds (record { principal = x.1.principal; timestamp = s.timestamp; version = 0; enctype = 0; key = [] }) && not (is_old_row newest r))) is.stamp
@@ -27,8 +27,7 @@ selects_by : (kvno : SelectedKvno) (now : ℕ) (xs : List PlacedEntry) (newest :
 selects_by Any now xs newest young r x stamps marks is = refl
 selects_by (Exactly version) now xs newest young r x stamps marks is = ap (λ (s : Stamp). s.kvno == version) is.stamp
 selects_by Newest now xs newest young r x stamps marks is = ap not (old_row xs newest r x stamps is)
-selects_by Old now xs newest young r x stamps marks is = old_row xs newest r x stamps is
-selects_by (OldFor seconds) now xs newest young r x stamps marks is = grind (arith, old_row xs newest r x stamps is, marks x.1.principal r.first is.first)
+selects_by (Old age) now xs newest young r x stamps marks is = grind (arith, old_row xs newest r x stamps is, marks x.1.principal r.first is.first)
 
 pub are_marks : (kvno : SelectedKvno) (now : ℕ) (xs : List PlacedEntry) (newest : List (Option Stamp)) (young : List Bool) (rows : List Row) → AreRows xs xs rows → AreNewest xs newest → AreYoung kvno now xs young → AreMarks kvno now xs xs (map (selects_row kvno newest young) rows)
 are_marks kvno now xs newest young rows are stamps marks =

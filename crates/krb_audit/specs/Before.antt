@@ -1,5 +1,5 @@
 -- What is known before an entry of a keytab: the first entry of each name, kvno and enctype, in a map, and more.
-use Rattle.std.specs.Prelude.{◌≡◌, List, ◌++◌, ℕ, length, map, find, Bool, ◌&&◌, ◌==◌, Option, Some, option_map}
+use Rattle.std.specs.Prelude.{◌≡◌, List, ◌++◌, ℕ, length, map, find, Bool, ◌&&◌, ◌==◌, Option, None, Some, option_map}
 use Rattle.std.specs.List.{list_any}
 use Rattle.std.specs.Vec.Iter.{into_iter_items}
 use Rattle.krb_names.specs.Marks.{AreMarked}
@@ -47,7 +47,7 @@ pub record IsMissing {A : Type 0} (wanted : List (List ℕ)) (before : List Plac
 pub record IsBefore {A : Type 0} (k : KeytabState) (wanted : List (List ℕ)) (before rest : List PlacedEntry) (b : Before A) : Type 0 where
   pub all : placed_entries k ≡ before ++ rest
   pub rows : AreRows (placed_entries k) rest (into_iter_items b.rows)
-  pub are_old : AreMarks Old 0 (placed_entries k) rest (into_iter_items b.are_old)
+  pub are_old : AreMarks (Old None) 0 (placed_entries k) rest (into_iter_items b.are_old)
   pub firsts : AreFirsts (placed_entries k) before (looked b.firsts)
   pub missing : IsMissing wanted before b.missing
   pub has_ended : b.has_ended ≡ list_any (λ x. ends_mit x.1) before

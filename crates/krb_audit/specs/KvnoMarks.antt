@@ -5,7 +5,7 @@ use Rattle.krb_wire.specs.Spelling.{Parts}
 use Rattle.krb_keytab.specs.Find.{PlacedEntry}
 use Rattle.krb_audit.specs.declared.rows.Row.{Row}
 use Rattle.krb_audit.specs.declared.selection.SelectedKvno.{SelectedKvno}
-use Rattle.krb_audit.specs.declared.selection.SelectedKvno.TheVariants.{Any, Exactly, Newest, Old, OldFor}
+use Rattle.krb_audit.specs.declared.selection.SelectedKvno.TheVariants.{Any, Exactly, Newest, Old}
 use Rattle.krb_audit.specs.declared.kvno_marks.SelectedVersions.{SelectedVersions}
 use Rattle.krb_audit.specs.declared.kvno_marks.SelectedVersions.TheVariants.{Each, This, Marked}
 use Rattle.krb_audit.specs.declared.newest.Stamp.{Stamp}
@@ -25,9 +25,9 @@ is_old_row newest r = has_other_version (stamped r.stamp) (option_map stamped (g
 abbrev pub is_young_row : ℕ → ℕ → List (Option Stamp) → Row → Bool
 is_young_row now seconds newest r = is_young now seconds (stamped r.stamp) && not (is_old_row newest r)
 
--- each mark says whether a name has such an entry; only `OldFor` asks
+-- if old entries are selected, each mark says whether a name has such an entry
 abbrev pub AreYoung : SelectedKvno → ℕ → List PlacedEntry → List Bool → Type 0
-AreYoung (OldFor seconds) now xs young = (p : Parts) (i : ℕ) → first_number p xs ≡ Some i → get_or young i false ≡ has_young now seconds xs p
+AreYoung (Old age) now xs young = (p : Parts) (i : ℕ) → first_number p xs ≡ Some i → get_or young i false ≡ has_young now age xs p
 AreYoung kvno now xs young = Unit {0}
 
 -- the entry of a row has a selected kvno, by those stamps and marks
@@ -35,8 +35,7 @@ abbrev pub selects_row : SelectedKvno → List (Option Stamp) → List Bool → 
 selects_row Any newest young r = true
 selects_row (Exactly version) newest young r = r.stamp.kvno == version
 selects_row Newest newest young r = not (is_old_row newest r)
-selects_row Old newest young r = is_old_row newest r
-selects_row (OldFor seconds) newest young r = is_old_row newest r && not (get_or young r.first false)
+selects_row (Old age) newest young r = not (get_or young r.first false) && is_old_row newest r
 
 -- for each of some entries, whether its kvno is selected
 abbrev pub AreMarks : SelectedKvno → ℕ → List PlacedEntry → List PlacedEntry → List Bool → Type 0

@@ -1,5 +1,5 @@
 -- Which entries of a keytab are selected.
-use Rattle.std.specs.Prelude.{◌≡◌, ℕ, ◌+◌, List, [], ◌∷◌, ◌++◌, Bool, true, not, ◌&&◌, ◌||◌, ◌==◌, nat_eq, nat_lt, filter, map}
+use Rattle.std.specs.Prelude.{◌≡◌, ℕ, ◌+◌, List, [], ◌∷◌, ◌++◌, Bool, false, true, not, ◌&&◌, ◌||◌, ◌==◌, nat_eq, nat_lt, filter, map, Option, None, Some, is_some}
 use Rattle.std.specs.List.{flat_map, list_any}
 use Rattle.std.specs.Str.{bytes_eq}
 use Rattle.std.specs.Vec.{vec_items}
@@ -10,7 +10,7 @@ use Rattle.krb_keytab.specs.Find.{PlacedEntry, placed_entries}
 use Rattle.krb_keytab.specs.Store.{KeytabState}
 use Rattle.krb_keytab_text.specs.Listing.{removed_line}
 use Rattle.krb_audit.specs.declared.selection.SelectedKvno.{SelectedKvno}
-use Rattle.krb_audit.specs.declared.selection.SelectedKvno.TheVariants.{Any, Exactly, Newest, Old, OldFor}
+use Rattle.krb_audit.specs.declared.selection.SelectedKvno.TheVariants.{Any, Exactly, Newest, Old}
 use Rattle.krb_audit.specs.declared.selection.Selection.{Selection}
 use Rattle.krb_audit.specs.declared.selection.Selected.{Selected}
 use Rattle.krb_audit.specs.Newest.{is_old}
@@ -41,17 +41,22 @@ is_young now seconds e = e.timestamp == 0 || nat_lt now (e.timestamp + seconds)
 abbrev pub is_young_of : ℕ → ℕ → List PlacedEntry → Parts → PlacedEntry → Bool
 is_young_of now seconds xs name x = have_same_name name x.1.principal && (is_young now seconds x.1 && not (is_old xs x.1))
 
--- a name has such an entry
-abbrev pub has_young : ℕ → ℕ → List PlacedEntry → Parts → Bool
-has_young now seconds xs name = list_any (is_young_of now seconds xs name) xs
+-- an age is given, and a name has such an entry
+abbrev pub has_young : ℕ → Option ℕ → List PlacedEntry → Parts → Bool
+has_young now None xs name = false
+has_young now (Some seconds) xs name = list_any (is_young_of now seconds xs name) xs
 
 -- an entry of the entries `xs` has a selected kvno at that time
 abbrev pub has_selected_kvno : SelectedKvno → ℕ → List PlacedEntry → EntryParts → Bool
 has_selected_kvno Any now xs e = true
 has_selected_kvno (Exactly version) now xs e = e.version == version
 has_selected_kvno Newest now xs e = not (is_old xs e)
-has_selected_kvno Old now xs e = is_old xs e
-has_selected_kvno (OldFor seconds) now xs e = is_old xs e && not (has_young now seconds xs e.principal)
+has_selected_kvno (Old age) now xs e = not (has_young now age xs e.principal) && is_old xs e
+
+-- the time decides whether an entry has a selected kvno: an age is given
+abbrev pub needs_clock : SelectedKvno → Bool
+needs_clock (Old age) = is_some age
+needs_clock kvno = false
 
 -- those of the entries that are selected at that time
 abbrev pub selected_of : {A : Type 0} → Selection A → ℕ → List PlacedEntry → List PlacedEntry

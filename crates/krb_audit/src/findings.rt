@@ -1,6 +1,6 @@
 //! What is found about the entries of a keytab.
 
-ghost use Rattle.std.specs.Prelude.{◌≡◌, ◌∷◌, ◌++◌, ◌&&◌, ◌||◌, [], List, ℕ, length, map, not, option_map, IfOk};
+ghost use Rattle.std.specs.Prelude.{◌≡◌, ◌∷◌, ◌++◌, ◌&&◌, ◌||◌, [], List, ℕ, length, map, not, None, option_map, IfOk};
 ghost use Rattle.std.specs.Vec.{vec_items};
 ghost use Rattle.krb_keytab.specs.Entry.{EntryParts};
 ghost use Rattle.krb_keytab.specs.Find.{PlacedEntry, placed_entries};
@@ -111,7 +111,7 @@ impl<'a, A: Allocator + Copy> Before<'a, A> {
         missing: Missing<'a, A>,
     ) -> Before<'a, A>
         ensures { (k : KeytabState) (wanted : List (List ℕ)) → AreRows (placed_entries k) (placed_entries k) rows.items
-            → AreMarks Old 0 (placed_entries k) (placed_entries k) are_old.items → IsMissing wanted [] missing.entry
+            → AreMarks (Old None) 0 (placed_entries k) (placed_entries k) are_old.items → IsMissing wanted [] missing.entry
             → IsBefore k wanted [] (placed_entries k) result }
     {
         Before {
@@ -190,7 +190,7 @@ pub(crate) fn check_entries<'k, A: Allocator + Copy, B: Allocator, C: Allocator>
     ensures count { IfOk result (λ pass. pass.count ≡ length (placed_entries keytab.now.state)) }
 {
     let rows = rows_of(alloc, keytab)?;
-    let are_old = marks_of(alloc, &rows, SelectedKvno::Old, 0)?;
+    let are_old = marks_of(alloc, &rows, SelectedKvno::Old(None), 0)?;
     // Bounds the number of entries, so that it fits.
     let _few = keytab.cell_count();
     let count = rows.len() as u32;

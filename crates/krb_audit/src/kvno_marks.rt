@@ -32,8 +32,7 @@ fn selects_row(kvno: SelectedKvno, newest: &[Option<Stamp>], young: &[bool], row
         SelectedKvno::Any => true,
         SelectedKvno::Exactly(selected) => row.stamp.kvno == selected,
         SelectedKvno::Newest => !is_old(newest, row),
-        SelectedKvno::Old => is_old(newest, row),
-        SelectedKvno::OldFor(_) => is_old(newest, row) && !is_marked(young, row),
+        SelectedKvno::Old(_) => !is_marked(young, row) && is_old(newest, row),
     }
 }
 

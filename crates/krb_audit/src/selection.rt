@@ -3,7 +3,7 @@
 ghost use Rattle.std.specs.Prelude.{◌≡◌, ◌++◌, ◌∷◌, [], if◌then◌else◌, ℕ, List, IfOk, OnOk};
 ghost use Rattle.std.specs.List.{list_any};
 ghost use Rattle.krb_keytab.specs.Find.{PlacedEntry, placed_entries};
-ghost use Rattle.krb_audit.specs.Selection.{Selects, is_named, selected_in};
+ghost use Rattle.krb_audit.specs.Selection.{Selects, is_named, needs_clock, selected_in};
 
 use crate::criteria::is_named_if_it_matters;
 use crate::kvno_marks::SelectedVersions;
@@ -21,10 +21,18 @@ pub enum SelectedKvno {
     Exactly(u32),
     /// That of the newest entry of the name.
     Newest,
-    /// Any kvno other than that of the newest entry of the name.
-    Old,
-    /// The same, of names whose entries of the newest kvno are all at least that many seconds old.
-    OldFor(u32),
+    /// Any kvno other than that of the newest entry of the name. With an age, in seconds, only those of names whose
+    /// entries of the newest kvno are all at least so old.
+    Old(Option<u32>),
+}
+
+impl SelectedKvno {
+    /// Returns whether the time decides which entries are selected: an age is given.
+    pub fn needs_clock(self) -> bool
+        ensures { result ≡ needs_clock self }
+    {
+        matches!(self, SelectedKvno::Old(Some(_)))
+    }
 }
 
 /// Which entries are selected: those that meet all criteria given.
@@ -133,8 +141,8 @@ fn take_selected<'k, A: Allocator + Copy, B: Allocator, T: Taker<'k>>(
     Ok(is_any_named)
 }
 
-/// Returns the entries of a keytab that `selection` selects at the time `now`, in seconds, which matters for `OldFor`
-/// alone. Takes time n log n in the bytes of the keytab and the names.
+/// Returns the entries of a keytab that `selection` selects at the time `now`, in seconds, which matters if its kvno
+/// `needs_clock`. Takes time n log n in the bytes of the keytab and the names.
 pub fn select<A: Allocator + Copy, B: Allocator>(
     alloc: A,
     label: &[u8],

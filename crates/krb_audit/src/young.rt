@@ -1,8 +1,8 @@
 //! The names whose newest kvno has a young entry.
 
-ghost use Rattle.std.specs.Prelude.{◌≡◌, ◌||◌, List, IfOk, false, get_or, slice_set};
+ghost use Rattle.std.specs.Prelude.{◌≡◌, ◌||◌, List, IfOk, Some, false, get_or, slice_set};
 ghost use Rattle.krb_keytab.specs.Find.{PlacedEntry};
-ghost use Rattle.krb_audit.specs.declared.selection.SelectedKvno.TheVariants.{OldFor};
+ghost use Rattle.krb_audit.specs.declared.selection.SelectedKvno.TheVariants.{Old};
 ghost use Rattle.krb_audit.specs.Rows.{AreRows, stamped};
 ghost use Rattle.krb_audit.specs.Selection.{is_young};
 ghost use Rattle.krb_audit.specs.KvnoMarks.{AreNewest, AreYoung, is_young_row};
@@ -48,7 +48,7 @@ fn young_for<A: Allocator + Copy>(
     seconds: u32,
 ) -> Result<Vec<bool, A>, NoMemory>
     ensures { (xs : List PlacedEntry) → AreRows xs xs rows.now → AreNewest xs newest.now
-        → IfOk result (λ young. AreYoung (OldFor seconds) now xs young.items) }
+        → IfOk result (λ young. AreYoung (Old (Some seconds)) now xs young.items) }
 {
     let len = numbered_len(rows);
     let mut young = Vec::new(alloc);
@@ -72,7 +72,7 @@ pub fn young_names<A: Allocator + Copy>(
         → IfOk result (λ young. AreYoung kvno now xs young.items) }
 {
     match kvno {
-        SelectedKvno::OldFor(seconds) => young_for(alloc, rows, newest, now, seconds),
+        SelectedKvno::Old(Some(seconds)) => young_for(alloc, rows, newest, now, seconds),
         _ => Ok(Vec::new(alloc)),
     }
 }

@@ -10,7 +10,7 @@ use Rattle.clap.specs.declared.builder.action.ArgAction.{ArgAction}
 use Rattle.clap.specs.declared.builder.action.ArgAction.TheVariants.{Append, Set}
 use Rattle.clap.specs.declared.builder.arg.Arg.{Arg}
 use Rattle.clap.specs.declared.builder.command.Command.{Command}
-use Rattle.krb_driver.specs.Mistakes.{MistakeParts, LeftOver, Missing, NeedsValue, NoCommand, Twice, UnknownCommand, UnknownLetter, UnknownOption}
+use Rattle.krb_driver.specs.Mistakes.{MistakeParts, left_over, missing, needs_value, without_command, twice_given, unknown_command, unknown_in_bundle, unknown_option}
 use Rattle.krb_command_line.specs.declared.place.Place.{Place}
 use Rattle.krb_command_line.specs.declared.place.Place.TheVariants.{Any, Operand, Value}
 
@@ -29,7 +29,7 @@ words_behind (program ∷ word ∷ words) = if is_explain (string_bytes word) th
 
 -- the mistake of a word where a command is expected
 abbrev pub no_command : List ℕ → MistakeParts
-no_command word = if is_explain word then Twice word else (if is_option word then UnknownOption word else UnknownCommand word)
+no_command word = if is_explain word then twice_given word else (if is_option word then unknown_option word else unknown_command word)
 
 abbrev pub command_name : Command → List ℕ
 command_name command = (shape_of command).name
@@ -47,9 +47,9 @@ command_of krbfile (name ∷ words) = if bytes_eq (string_bytes name) (codes "he
 
 -- the mistake in the words behind `help`
 abbrev pub mistake_of_help : Command → List (String Global) → MistakeParts
-mistake_of_help krbfile [] = NoCommand
+mistake_of_help krbfile [] = without_command
 mistake_of_help krbfile (word ∷ []) = no_command (string_bytes word)
-mistake_of_help krbfile (name ∷ other ∷ words) = if is_some (command_named krbfile (string_bytes name)) then LeftOver (string_bytes other) else no_command (string_bytes name)
+mistake_of_help krbfile (name ∷ other ∷ words) = if is_some (command_named krbfile (string_bytes name)) then left_over (string_bytes other) else no_command (string_bytes name)
 
 -- ---- the options and operands of a command
 
@@ -87,7 +87,7 @@ is_operand arg = not (is_some arg.long) && not (is_some arg.short)
 
 -- the number of operands with one more word, unless that is left over; the last operand may be many words
 abbrev pub with_operand : List Arg → ℕ → List ℕ → Result ℕ MistakeParts
-with_operand args count word = if nat_lt count (length (filter is_operand args)) then Ok (count + 1) else (if list_any (λ arg. is_operand arg && takes_values arg) args then Ok count else Err (LeftOver word))
+with_operand args count word = if nat_lt count (length (filter is_operand args)) then Ok (count + 1) else (if list_any (λ arg. is_operand arg && takes_values arg) args then Ok count else Err (left_over word))
 
 -- the first operand that is required after that many
 abbrev pub missing_operand : List Arg → ℕ → Option (List ℕ)
@@ -103,7 +103,7 @@ takes_letter_value options letter = option_map takes_values (find (is_of_letter 
 
 -- the mistake of an unknown letter in a bundle; `=` comes before a value that a flag does not take
 abbrev pub unknown_letter : List ℕ → ℕ → MistakeParts
-unknown_letter word letter = if letter == 61 then UnknownOption word else UnknownLetter (encode_utf8 letter)
+unknown_letter word letter = if letter == 61 then unknown_option word else unknown_in_bundle (encode_utf8 letter)
 
 -- the value at the end of the letters of a bundle, behind the first letter whose option takes one; or their first mistake
 abbrev pub value_in : List Arg → List ℕ → List ℕ → Result (Option (List ℕ)) MistakeParts
@@ -125,21 +125,21 @@ is_long word = starts_with nat_eq word (codes "--")
 
 -- an option or a bundle of options needs the next word as its value; or the mistake in it
 abbrev pub wants_value : List Arg → List ℕ → Result Bool MistakeParts
-wants_value options word = if is_long word then ok_or (wants_long options (drop 2 word)) (UnknownOption word) else result_map_both is_empty (λ mistake. mistake) (bundled_value options word)
+wants_value options word = if is_long word then ok_or (wants_long options (drop 2 word)) (unknown_option word) else result_map_both is_empty (λ mistake. mistake) (bundled_value options word)
 
 -- ---- the words behind a command
 
 -- the place after a word, which comes after `last`
 abbrev pub read_word : List Arg → Place → List ℕ → List ℕ → Result Place MistakeParts
-read_word args (Value count) last word = if is_option word then Err (NeedsValue last) else Ok (Any count)
+read_word args (Value count) last word = if is_option word then Err (needs_value last) else Ok (Any count)
 read_word args (Operand count) last word = result_map_both Operand (λ mistake. mistake) (with_operand args count word)
 read_word args (Any count) last word = if bytes_eq word (codes "--") then Ok (Operand count) else (if is_option word then result_map_both (λ wants. if wants then Value count else Any count) (λ mistake. mistake) (wants_value args word) else result_map_both Any (λ mistake. mistake) (with_operand args count word))
 
 -- what is missing after the last word; if nothing is, that word is left over
 abbrev pub missing_after : List Arg → Place → List ℕ → MistakeParts
-missing_after args (Value count) last = NeedsValue last
-missing_after args (Any count) last = option_map_or Missing (missing_operand args count) (LeftOver last)
-missing_after args (Operand count) last = option_map_or Missing (missing_operand args count) (LeftOver last)
+missing_after args (Value count) last = needs_value last
+missing_after args (Any count) last = option_map_or missing (missing_operand args count) (left_over last)
+missing_after args (Operand count) last = option_map_or missing (missing_operand args count) (left_over last)
 
 -- a place leads on, and a mistake is the first
 abbrev pub first_mistake : (Place → MistakeParts) → Result Place MistakeParts → MistakeParts
@@ -159,7 +159,7 @@ mistake_behind args words = mistake_after args (Any 0) [] words
 
 -- the first mistake in words that krbfile does not match
 abbrev pub mistake_of_words : Command → List (String Global) → MistakeParts
-mistake_of_words krbfile [] = NoCommand
+mistake_of_words krbfile [] = without_command
 mistake_of_words krbfile (name ∷ words) = if bytes_eq (string_bytes name) (codes "help") then mistake_of_help krbfile words else option_map_or (λ command. mistake_behind (args_of command) words) (command_named krbfile (string_bytes name)) (no_command (string_bytes name))
 
 -- the long names of options in the words before a first `--`

@@ -6,7 +6,7 @@ ghost use Rattle.krb_command_line.specs.Words.{command_name, command_named, comm
 
 use crate::place::mistake_behind;
 use clap::Command;
-use krb_driver::{BadLine, Mistake, More};
+use krb_driver::{BadLine, Mistake, More, Phrase};
 
 /// Returns whether a word is an option or a bundle of options, if no `--` comes before it.
 pub fn is_option(word: &str) -> bool
@@ -20,11 +20,11 @@ fn no_command(word: &str) -> Mistake<'_>
     ensures { mistake_parts result ≡ no_command word.now }
 {
     if word == "--explain" {
-        Mistake::Twice(word)
+        Phrase::TWICE_GIVEN.of(word)
     } else if is_option(word) {
-        Mistake::UnknownOption(word)
+        Phrase::UNKNOWN_OPTION.of(word)
     } else {
-        Mistake::UnknownCommand(word)
+        Phrase::UNKNOWN_COMMAND.of(word)
     }
 }
 
@@ -59,11 +59,11 @@ fn mistake_of_help<'a>(krbfile: &Command<'a>, words: &'a [String]) -> Mistake<'a
     ensures { mistake_parts result ≡ mistake_of_help krbfile.now words.now }
 {
     match words {
-        [] => Mistake::NoCommand,
+        [] => Phrase::WITHOUT_COMMAND.of(""),
         [word] => no_command(word.as_str()),
         [name, other, ..] => {
             if command_named(krbfile, name.as_str()).is_some() {
-                Mistake::LeftOver(other.as_str())
+                Phrase::LEFT_OVER.of(other.as_str())
             } else {
                 no_command(name.as_str())
             }
@@ -90,7 +90,7 @@ pub fn bad_line<'a>(krbfile: &Command<'a>, words: &'a [String]) -> BadLine<'a>
     ensures more { result.more ≡ More.Nothing }
 {
     let (mistake, command) = match words_behind(words) {
-        [] => (Mistake::NoCommand, None),
+        [] => (Phrase::WITHOUT_COMMAND.of(""), None),
         [name, rest @ ..] if name.as_str() == "help" => (mistake_of_help(krbfile, rest), None),
         [name, rest @ ..] => match command_named(krbfile, name.as_str()) {
             Some(command) => (mistake_behind(command, rest), Some(command.get_name())),

@@ -8,7 +8,7 @@ ghost use Rattle.krb_command_line.specs.Words.{bundled_value, takes_letter_value
 
 use crate::options::takes_values;
 use clap::Arg;
-use krb_driver::Mistake;
+use krb_driver::{Mistake, Phrase};
 
 // Returns whether the option of that letter takes a value, or `None` if there is none.
 fn takes_letter_value(options: &[Arg<'_>], letter: char) -> Option<bool>
@@ -46,8 +46,8 @@ pub fn bundled_value<'a>(options: &[Arg<'_>], word: &'a str) -> Result<Option<&'
         match takes_letter_value(options, letter) {
             Some(true) => return Ok(Some(others)),
             Some(false) => letters = others,
-            None if letter == '=' => return Err(Mistake::UnknownOption(word)),
-            None => return Err(Mistake::UnknownLetter(text)),
+            None if letter == '=' => return Err(Phrase::UNKNOWN_OPTION.of(word)),
+            None => return Err(Phrase::UNKNOWN_IN_BUNDLE.of(text)),
         }
     }
     Ok(None)

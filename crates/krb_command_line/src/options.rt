@@ -8,7 +8,7 @@ ghost use Rattle.krb_command_line.specs.Words.{is_equals, is_of_name, is_operand
 
 use crate::bundle::bundled_value;
 use clap::{Arg, ArgAction};
-use krb_driver::Mistake;
+use krb_driver::{Mistake, Phrase};
 
 fn is_of_name(option: &Arg<'_>, name: &str) -> bool
     ensures { result ≡ is_of_name name.now option.now }
@@ -67,7 +67,7 @@ pub fn wants_value<'a>(options: &[Arg<'_>], word: &'a str) -> Result<bool, Mista
     ensures { result_map_both (λ wants. wants) mistake_parts result ≡ wants_value options.now word.now }
 {
     match word.strip_prefix("--") {
-        Some(name) => wants_long(options, name).ok_or(Mistake::UnknownOption(word)),
+        Some(name) => wants_long(options, name).ok_or(Phrase::UNKNOWN_OPTION.of(word)),
         None => Ok(bundled_value(options, word)? == Some("")),
     }
 }
@@ -100,7 +100,7 @@ pub fn with_operand<'a>(args: &[Arg<'_>], count: usize, word: &'a str) -> Result
     } else if takes_many(args) {
         Ok(count)
     } else {
-        Err(Mistake::LeftOver(word))
+        Err(Phrase::LEFT_OVER.of(word))
     }
 }
 

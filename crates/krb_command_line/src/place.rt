@@ -9,7 +9,7 @@ ghost use Rattle.krb_command_line.specs.Words.{mistake_behind, read_word};
 use crate::bad_line::is_option;
 use crate::options::{missing_operand, wants_value, with_operand};
 use clap::{Arg, Command};
-use krb_driver::Mistake;
+use krb_driver::{Mistake, Phrase};
 
 /// What the next word may be, after that many operands.
 #[derive(Clone, Copy)]
@@ -31,7 +31,7 @@ fn read_word<'a>(
     ensures { result_map_both (λ next. next) mistake_parts result ≡ read_word args.now place last.now word.now }
 {
     match place {
-        Place::Value(_) if is_option(word) => Err(Mistake::NeedsValue(last)),
+        Place::Value(_) if is_option(word) => Err(Phrase::NEEDS_VALUE.of(last)),
         Place::Value(count) => Ok(Place::Any(count)),
         Place::Any(count) if word == "--" => Ok(Place::Operand(count)),
         Place::Any(count) if is_option(word) => match wants_value(args, word)? {
@@ -58,10 +58,10 @@ pub fn mistake_behind<'a>(command: &Command<'a>, words: &'a [String]) -> Mistake
         last = word.as_str();
     }
     match place {
-        Place::Value(_) => Mistake::NeedsValue(last),
+        Place::Value(_) => Phrase::NEEDS_VALUE.of(last),
         Place::Any(count) | Place::Operand(count) => match missing_operand(args, count) {
-            Some(operand) => Mistake::Missing(operand),
-            None => Mistake::LeftOver(last),
+            Some(operand) => Phrase::MISSING.of(operand),
+            None => Phrase::LEFT_OVER.of(last),
         },
     }
 }

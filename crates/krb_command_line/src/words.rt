@@ -10,7 +10,7 @@ use crate::nearest::{meant_command, meant_option};
 use crate::options::before_equals;
 use clap::error::ErrorKind;
 use clap::{ArgMatches, Command, Error};
-use krb_driver::{BadLine, CommandWords, Matches, Mistake, More, WordFault};
+use krb_driver::{BadLine, CommandWords, Matches, More, Phrase, WordFault};
 use krb_findings::FINDINGS;
 use std::alloc::{AllocError, Global};
 
@@ -107,7 +107,7 @@ fn matched_command<'a>(
             return Ok(Request::Command(*line, Matched { found, none, long }));
         }
     }
-    Err(WordFault::from(Mistake::NoCommand))
+    Err(WordFault::from(Phrase::WITHOUT_COMMAND.of("")))
 }
 
 // Returns what follows the line of a mistake. The text of a help is kept in `help`.
@@ -117,14 +117,14 @@ fn more_of<'a>(
     line: &BadLine<'a>,
     help: &'a mut String,
 ) -> Result<More<'a>, AllocError> {
-    match (line.mistake, line.command) {
-        (Mistake::NoCommand, _) => {
+    match (line.mistake.phrase, line.command) {
+        (Phrase::WITHOUT_COMMAND, _) => {
             *help = krbfile.render_help()?;
             Ok(More::Help(help.as_str()))
         }
-        (Mistake::UnknownCommand(word), _) => meant_command(alloc, krbfile, word),
-        (Mistake::UnknownOption(word), Some(name)) => match krbfile.find_subcommand(name) {
-            Some(command) => meant_option(alloc, command, word),
+        (Phrase::UNKNOWN_COMMAND, _) => meant_command(alloc, krbfile, line.mistake.word),
+        (Phrase::UNKNOWN_OPTION, Some(name)) => match krbfile.find_subcommand(name) {
+            Some(command) => meant_option(alloc, command, line.mistake.word),
             None => Ok(More::Nothing),
         },
         _ => Ok(More::Nothing),

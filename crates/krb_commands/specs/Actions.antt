@@ -2,8 +2,7 @@
 use Rattle.std.specs.Prelude.{unwrap_or, nat_eq, ◌≡◌, ℕ, List, [], ◌∷◌, codes, map, length, nat_lt, not, ◌==◌, is_some, Bool, true, false, if◌then◌else◌, Option, None, Some, Result, Ok, Err, string_bytes}
 use Rattle.std.specs.List.{list_any}
 use Rattle.krb_files.specs.declared.files.Files.{Ghosts}
-use Rattle.krb_audit.specs.declared.selection.SelectedKvno.{SelectedKvno}
-use Rattle.krb_audit.specs.declared.selection.SelectedKvno.TheVariants.{OldFor}
+use Rattle.krb_audit.specs.Selection.{needs_clock}
 use Rattle.krb_commands.specs.declared.action.Action.{Action}
 use Rattle.krb_commands.specs.declared.needs.LeftOut.{LeftOut}
 use Rattle.krb_commands.specs.declared.needs.Needs.{Needs}
@@ -152,11 +151,6 @@ line_mistake name.Ccremove words = ticket_mistake words
 line_mistake name.Hold words = hold_mistake words
 line_mistake command words = None
 
--- whether a kvno is selected depends on the time
-abbrev pub is_timed : SelectedKvno → Bool
-is_timed (OldFor seconds) = true
-is_timed kvno = false
-
 -- what a line needs beside its files: nothing
 abbrev pub nothing : Needs
 nothing = record { clock = false; plain = false; in_place = false; script = false; json = false; left_out = None }
@@ -202,7 +196,7 @@ needs (Ktcheck options names) = record (reads names.items (left_out_of Keytab na
 needs (Show options names) = shows names.items options.default
 needs (Ktedit order file) = edits file true
 needs (Ccedit file) = edits file true
-needs (Ktremove options names) = edits_all names.items (is_timed options.selection.kvno)
+needs (Ktremove options names) = edits_all names.items (needs_clock options.selection.kvno)
 needs (Ccremove options names) = edits_all names.items options.expired
 needs (Ktcopy options from to) = edits to false
 needs (Hold kind file) = edits file false

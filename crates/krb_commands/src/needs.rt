@@ -5,7 +5,6 @@ ghost use Rattle.std.specs.List.{list_any};
 ghost use Rattle.krb_commands.specs.Actions.{are_several, edits, edits_all, left_out, left_out_of, needs, needs_of, nothing, reads, shows, surveys};
 
 use crate::action::Action;
-use krb_audit::SelectedKvno;
 use krb_driver::{CommandName, FileKind, FileName, WordFault};
 
 /// A file that a command line leaves out.
@@ -173,8 +172,7 @@ fn action_needs(action: &Action<'_>) -> Needs
         Action::Show(options, names) => shows(names, options.default),
         Action::Ktedit(_, file) | Action::Ccedit(file) => Needs::edits(file, true),
         Action::Ktremove(options, names) => {
-            let is_timed = matches!(options.selection.kvno, SelectedKvno::OldFor(_));
-            edits_all(names, is_timed)
+            edits_all(names, options.selection.kvno.needs_clock())
         }
         Action::Ccremove(options, names) => edits_all(names, options.expired),
         Action::Ktcopy(_, _, file) | Action::Hold(_, file) => Needs::edits(file, false),

@@ -5,7 +5,8 @@ use Rattle.krb_wire.specs.declared.memory.NoMemory.{NoMemory}
 use Rattle.krb_wire.specs.declared.name_fault.NameFault.{NameFault}
 use Rattle.krb_wire.specs.NameOf.{name_fault_phrase, name_of}
 use Rattle.krb_driver.specs.declared.command_line.mistake.Mistake.{Mistake}
-use Rattle.krb_driver.specs.declared.command_line.mistake.Mistake.TheVariants as mistake
+use Rattle.krb_driver.specs.declared.command_line.mistake.Phrase.{Phrase}
+use Rattle.krb_driver.specs.declared.command_line.mistake.Phrase.TheVariants as phrase
 use Rattle.krb_driver.specs.declared.command_line.mistake.More.{More}
 use Rattle.krb_driver.specs.declared.command_line.mistake.More.TheVariants as more
 use Rattle.krb_driver.specs.declared.command_line.mistake.WordFault.{WordFault}
@@ -26,76 +27,86 @@ use Rattle.krb_text.specs.Numbers.{seconds_in}
 abbrev pub mistake_head : List ℕ
 mistake_head = codes "krbfile: bad command line\nkrbfile: "
 
--- what is wrong with a command line, with its words as texts
+-- what is wrong with a command line: texts and its words between them, the first as it is printed or in quotes
 pub data MistakeParts : Type 0 where
-  NoCommand : MistakeParts
-  UnknownCommand : List ℕ → MistakeParts
-  UnknownOption : List ℕ → MistakeParts
-  UnknownLetter : List ℕ → MistakeParts
-  Missing : List ℕ → MistakeParts
-  LeftOver : List ℕ → MistakeParts
-  NeedsValue : List ℕ → MistakeParts
-  Twice : List ℕ → MistakeParts
-  TakesOneFile : List ℕ → MistakeParts
-  DoNotGoTogether : List ℕ → List ℕ → MistakeParts
-  ForKeytabs : List ℕ → MistakeParts
-  OnlyWith : List ℕ → List ℕ → MistakeParts
-  OnlyWithOne : List ℕ → List ℕ → MistakeParts
-  NoVersion : List ℕ → MistakeParts
-  NoEtype : List ℕ → MistakeParts
-  NoTime : List ℕ → MistakeParts
-  NoFinding : List ℕ → MistakeParts
-  BadName : List ℕ → NameFault → MistakeParts
-  NothingSelects : List ℕ → MistakeParts
-  NotText : MistakeParts
-  VariableNotText : List ℕ → MistakeParts
+  Shown : List ℕ → List ℕ → List ℕ → List ℕ → List ℕ → MistakeParts
+  Quoted : List ℕ → List ℕ → List ℕ → MistakeParts
+
+abbrev pub parts_of : Phrase → List ℕ → List ℕ → MistakeParts
+parts_of (phrase.Shown before between after) word other = Shown before.now word between.now other after.now
+parts_of (phrase.Quoted between) word other = Quoted word between.now other
 
 abbrev pub mistake_parts : Mistake → MistakeParts
-mistake_parts mistake.NoCommand = NoCommand
-mistake_parts (mistake.UnknownCommand word) = UnknownCommand word.now
-mistake_parts (mistake.UnknownOption word) = UnknownOption word.now
-mistake_parts (mistake.UnknownLetter letter) = UnknownLetter letter.now
-mistake_parts (mistake.Missing operand) = Missing operand.now
-mistake_parts (mistake.LeftOver word) = LeftOver word.now
-mistake_parts (mistake.NeedsValue option) = NeedsValue option.now
-mistake_parts (mistake.Twice option) = Twice option.now
-mistake_parts (mistake.TakesOneFile option) = TakesOneFile option.now
-mistake_parts (mistake.DoNotGoTogether option other) = DoNotGoTogether option.now other.now
-mistake_parts (mistake.ForKeytabs option) = ForKeytabs option.now
-mistake_parts (mistake.OnlyWith option other) = OnlyWith option.now other.now
-mistake_parts (mistake.OnlyWithOne option other) = OnlyWithOne option.now other.now
-mistake_parts (mistake.NoVersion word) = NoVersion word.now
-mistake_parts (mistake.NoEtype word) = NoEtype word.now
-mistake_parts (mistake.NoTime word) = NoTime word.now
-mistake_parts (mistake.NoFinding word) = NoFinding word.now
-mistake_parts (mistake.BadName word fault) = BadName word.now fault
-mistake_parts (mistake.NothingSelects options) = NothingSelects options.now
-mistake_parts mistake.NotText = NotText
-mistake_parts (mistake.VariableNotText name) = VariableNotText name.now
+mistake_parts m = parts_of m.phrase m.word.now m.other.now
 
--- the phrase of a mistake, and the rest of its line
+-- what is wrong, and the rest of its line
 abbrev pub mistake_line : MistakeParts → List ℕ → List ℕ
-mistake_line NoCommand rest = codes "no command" ++ rest
-mistake_line (UnknownCommand word) rest = codes "unknown command " ++ (shown_word word ++ rest)
-mistake_line (UnknownOption word) rest = codes "unknown option " ++ (shown_word word ++ rest)
-mistake_line (UnknownLetter letter) rest = codes "unknown option -" ++ (shown_word letter ++ rest)
-mistake_line (Missing operand) rest = codes "no " ++ (shown_word operand ++ rest)
-mistake_line (LeftOver word) rest = codes "left over: " ++ (shown_word word ++ rest)
-mistake_line (NeedsValue option) rest = shown_word option ++ (codes " needs a value" ++ rest)
-mistake_line (Twice option) rest = shown_word option ++ (codes " is given twice" ++ rest)
-mistake_line (TakesOneFile option) rest = shown_word option ++ (codes " takes one FILE" ++ rest)
-mistake_line (DoNotGoTogether option other) rest = shown_word option ++ (codes " does not go with " ++ (shown_word other ++ rest))
-mistake_line (ForKeytabs option) rest = shown_word option ++ (codes " is for keytabs; give -k" ++ rest)
-mistake_line (OnlyWith option other) rest = shown_word option ++ (codes " goes with " ++ (shown_word other ++ (codes " alone" ++ rest)))
-mistake_line (OnlyWithOne option other) rest = shown_word option ++ (codes " goes with one " ++ (shown_word other ++ rest))
-mistake_line (NoVersion word) rest = quoted_word word ++ (codes " is no " ++ (codes "version" ++ rest))
-mistake_line (NoEtype word) rest = quoted_word word ++ (codes " is no " ++ (codes "encryption type" ++ rest))
-mistake_line (NoTime word) rest = quoted_word word ++ (codes " is no " ++ (codes "time (90, 15m, 10h, 7d)" ++ rest))
-mistake_line (NoFinding word) rest = quoted_word word ++ (codes " is no " ++ (codes "finding" ++ rest))
-mistake_line (BadName word fault) rest = quoted_word word ++ (codes " has " ++ (name_fault_phrase fault ++ rest))
-mistake_line (NothingSelects options) rest = codes "nothing selects; give " ++ (shown_word options ++ rest)
-mistake_line NotText rest = codes "an argument is not UTF-8" ++ rest
-mistake_line (VariableNotText name) rest = shown_word name ++ (codes " is not UTF-8" ++ rest)
+mistake_line (Shown before word between other after) rest = before ++ (shown_word word ++ (between ++ (shown_word other ++ (after ++ rest))))
+mistake_line (Quoted word between other) rest = quoted_word word ++ (between ++ (shown_word other ++ rest))
+
+-- each mistake there is
+abbrev pub without_command : MistakeParts
+without_command = Shown (codes "no command") [] [] [] []
+
+abbrev pub unknown_command : List ℕ → MistakeParts
+unknown_command word = Shown (codes "unknown command ") word [] [] []
+
+abbrev pub unknown_option : List ℕ → MistakeParts
+unknown_option word = Shown (codes "unknown option ") word [] [] []
+
+abbrev pub unknown_in_bundle : List ℕ → MistakeParts
+unknown_in_bundle letter = Shown (codes "unknown option -") letter [] [] []
+
+abbrev pub missing : List ℕ → MistakeParts
+missing operand = Shown (codes "no ") operand [] [] []
+
+abbrev pub left_over : List ℕ → MistakeParts
+left_over word = Shown (codes "left over: ") word [] [] []
+
+abbrev pub needs_value : List ℕ → MistakeParts
+needs_value option = Shown [] option (codes " needs a value") [] []
+
+abbrev pub twice_given : List ℕ → MistakeParts
+twice_given option = Shown [] option (codes " is given twice") [] []
+
+abbrev pub takes_one_file : List ℕ → MistakeParts
+takes_one_file option = Shown [] option (codes " takes one FILE") [] []
+
+abbrev pub does_not_go_with : List ℕ → List ℕ → MistakeParts
+does_not_go_with option other = Shown [] option (codes " does not go with ") other []
+
+abbrev pub for_keytabs : List ℕ → MistakeParts
+for_keytabs option = Shown [] option (codes " is for keytabs; give -k") [] []
+
+abbrev pub only_with : List ℕ → List ℕ → MistakeParts
+only_with option other = Shown [] option (codes " goes with ") other (codes " alone")
+
+abbrev pub only_with_one : List ℕ → List ℕ → MistakeParts
+only_with_one option other = Shown [] option (codes " goes with one ") other []
+
+abbrev pub no_version : List ℕ → MistakeParts
+no_version word = Quoted word (codes " is no version") []
+
+abbrev pub no_etype : List ℕ → MistakeParts
+no_etype word = Quoted word (codes " is no encryption type") []
+
+abbrev pub no_time : List ℕ → MistakeParts
+no_time word = Quoted word (codes " is no time (90, 15m, 10h, 7d)") []
+
+abbrev pub no_finding : List ℕ → MistakeParts
+no_finding word = Quoted word (codes " is no finding") []
+
+abbrev pub faulty_name : List ℕ → NameFault → MistakeParts
+faulty_name word fault = Quoted word (codes " has ") (name_fault_phrase fault)
+
+abbrev pub nothing_selects : List ℕ → MistakeParts
+nothing_selects options = Shown (codes "nothing selects; give ") options [] [] []
+
+abbrev pub not_text : MistakeParts
+not_text = Shown (codes "an argument is not UTF-8") [] [] [] []
+
+abbrev pub variable_not_text : List ℕ → MistakeParts
+variable_not_text variable = Shown [] variable (codes " is not UTF-8") [] []
 
 -- the reference to the help: krbfile's, or a command's
 abbrev pub help_of : Option (List ℕ) → List ℕ
@@ -188,7 +199,7 @@ first_value words name = slice_get (words.values name) 0
 
 -- an option is given twice
 abbrev pub twice : Matched → List ℕ → List ℕ → List ℕ → Option MistakeParts
-twice words name letter long = if nat_lt 1 (length (words.values name)) then Some (Twice (typed words letter long)) else None
+twice words name letter long = if nat_lt 1 (length (words.values name)) then Some (twice_given (typed words letter long)) else None
 
 -- the first of the mistakes in some words
 abbrev pub first_mistake : (List ℕ → Option MistakeParts) → List (List ℕ) → Option MistakeParts
@@ -205,7 +216,7 @@ AreSpelled spelled words values = map spelled words ≡ map (λ value. Some valu
 
 -- the mistake in a word that is not a principal name
 abbrev pub bad_name : List ℕ → Option MistakeParts
-bad_name word = option_map (BadName word) (result_err (name_of word None))
+bad_name word = option_map (faulty_name word) (result_err (name_of word None))
 
 -- the name is the one that the word spells
 abbrev pub IsSpelledName : {A : Type 0} → List ℕ → Principal A → Type 0
@@ -223,14 +234,14 @@ ArePrintedNames words names = map printed_name words ≡ map (λ name. Some name
 
 -- the mistake in a word that is no encryption type
 abbrev pub bad_etype : List ℕ → Option MistakeParts
-bad_etype word = if is_none (etype_in word) then Some (NoEtype word) else None
+bad_etype word = if is_none (etype_in word) then Some (no_etype word) else None
 
 -- ---- times
 
 -- the mistake in a word that is no time
 abbrev pub bad_seconds : Option (List ℕ) → Option MistakeParts
 bad_seconds None = None
-bad_seconds (Some word) = if is_none (seconds_in word) then Some (NoTime word) else None
+bad_seconds (Some word) = if is_none (seconds_in word) then Some (no_time word) else None
 
 -- the seconds are those that the word spells, or there is neither
 abbrev pub AreSpelledSeconds : Option (List ℕ) → Option ℕ → Type 0

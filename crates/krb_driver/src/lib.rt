@@ -17,7 +17,7 @@ mod without_files;
 
 pub use command::{Command, FileError, Made, MakeResult, Output, RunEnd, Show, World, finish, run};
 pub use command_line::matches::{Matches, first_value, refuse_twice, times_given, typed, v1_order};
-pub use command_line::mistake::{BadLine, Mistake, More, WordFault};
+pub use command_line::mistake::{BadLine, Mistake, More, Phrase, WordFault};
 pub use command_line::spelled::{
     Spelled, spelled_etype, spelled_etypes, spelled_name, spelled_names, spelled_seconds,
 };

@@ -16,7 +16,7 @@ use Rattle.krb_driver.specs.declared.verdict.FileKind.TheVariants.{Cache}
 use Rattle.krb_driver.specs.declared.verdict.Verdict.{Verdict}
 use Rattle.krb_driver.specs.declared.verdict.Verdict.TheVariants.{Well, NothingToRemove, Without}
 use Rattle.krb_driver.specs.Commands.{CommandPlan, Effect, Displays, holds, opens, saves_unless, text}
-use Rattle.krb_driver.specs.Mistakes.{ArePrintedNames, Matched, bad_name, first_mistake, MistakeParts, NothingSelects}
+use Rattle.krb_driver.specs.Mistakes.{ArePrintedNames, Matched, bad_name, first_mistake, MistakeParts, nothing_selects}
 use Rattle.krb_driver.specs.Loading.{writable_in}
 use Rattle.krb_driver.specs.Several.{label_of}
 
@@ -59,7 +59,7 @@ ccremove_plan o ended are_several file =
 abbrev pub ticket_mistake : Matched → Option MistakeParts
 ticket_mistake words =
     if (length (words.values (codes "service")) == 0) && (not (words.flag (codes "all-services")) && not (words.flag (codes "expired")))
-    then Some (NothingSelects (codes "-p, --all-services or --expired"))
+    then Some (nothing_selects (codes "-p, --all-services or --expired"))
     else first_mistake bad_name (words.values (codes "service"))
 
 -- each option is what its own word spells

@@ -26,7 +26,7 @@ use Rattle.krb_driver.specs.declared.verdict.Verdict.TheVariants.{Well}
 use Rattle.krb_driver.specs.declared.command.World.{World}
 use Rattle.krb_driver.specs.Commands.{GivesOf, can_hold}
 use Rattle.krb_driver.specs.Loading.{GivesInput, not_cache, result_map, result_map_err, keytab_in}
-use Rattle.krb_driver.specs.Mistakes.{Matched, v1_order, MistakeParts, ForKeytabs}
+use Rattle.krb_driver.specs.Mistakes.{Matched, v1_order, MistakeParts, for_keytabs}
 use Rattle.krb_driver.specs.RunErrors.{Ending, input_error, load_error, save_error}
 use Rattle.krb_driver.specs.Runs.{Reports, Shows}
 use Rattle.krb_editors.specs.declared.hold.last_line.Outcome.TheVariants.{Saved, Left}
@@ -71,7 +71,7 @@ file_kind Cache = kind.Cache
 
 -- the mistake in the words: `--v1-big` is for keytabs
 abbrev pub hold_mistake : Matched → Option MistakeParts
-hold_mistake words = if words.flag (codes "keytab") then None else (if words.flag (codes "v1-big") then Some (ForKeytabs (codes "--v1-big")) else None)
+hold_mistake words = if words.flag (codes "keytab") then None else (if words.flag (codes "v1-big") then Some (for_keytabs (codes "--v1-big")) else None)
 
 -- ---- images
 

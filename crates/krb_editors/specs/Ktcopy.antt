@@ -18,7 +18,7 @@ use Rattle.krb_driver.specs.declared.file_name.FileName.{FileName}
 use Rattle.krb_driver.specs.declared.verdict.Verdict.{Verdict}
 use Rattle.krb_driver.specs.declared.verdict.Verdict.TheVariants.{Clashed, Well}
 use Rattle.krb_driver.specs.Commands.{CommandPlan, Effect, Displays, Fails, holds, opens, saves_unless, text}
-use Rattle.krb_driver.specs.Mistakes.{Matched, bad_name, first_value, twice, v1_order, MistakeParts, OnlyWithOne}
+use Rattle.krb_driver.specs.Mistakes.{Matched, bad_name, first_value, twice, v1_order, MistakeParts, only_with_one}
 use Rattle.krb_driver.specs.Loading.{whole_in, whole_or_empty}
 use Rattle.krb_driver.specs.RunErrors.{hiding}
 use Rattle.krb_editors.specs.declared.ktcopy.CopyOptions.{CopyOptions}
@@ -65,7 +65,7 @@ ktcopy_plan o from to = opens from (whole_in o.v1_order) (λ k. copies_from o fr
 -- a new name is given, and not just one name to copy
 abbrev pub odd_new_name : Matched → Option MistakeParts
 odd_new_name words =
-    if nat_lt 0 (length (words.values (codes "as"))) && not (length (words.values (codes "principal")) == 1) then Some (OnlyWithOne (codes "--as") (codes "-p")) else None
+    if nat_lt 0 (length (words.values (codes "as"))) && not (length (words.values (codes "principal")) == 1) then Some (only_with_one (codes "--as") (codes "-p")) else None
 
 -- the first mistake of the words
 abbrev pub copy_mistake : Matched → Option MistakeParts

@@ -1,5 +1,5 @@
 -- What ktremove does.
-use Rattle.std.specs.Prelude.{◌≡◌, ℕ, Bool, true, false, not, List, [], ◌++◌, ◌&&◌, ◌||◌, map, nat_lt, length, ◌==◌, if◌then◌else◌, codes, Option, None, Some, option_and_then, Result, Ok, Err}
+use Rattle.std.specs.Prelude.{◌≡◌, ℕ, Bool, true, false, not, List, [], ◌++◌, ◌&&◌, ◌||◌, map, nat_lt, length, ◌==◌, if◌then◌else◌, codes, Option, None, Some, ok_or, option_and_then, Result, Ok, Err}
 use Rattle.std.specs.List.{flat_map, list_any}
 use Rattle.std.specs.Option.{option_or}
 use Rattle.std.specs.Str.{bytes_eq}
@@ -10,9 +10,9 @@ use Rattle.krb_files.specs.Plan.{Ends}
 use Rattle.krb_keytab_text.specs.Listing.{removed_line}
 use Rattle.krb_text.specs.Numbers.{seconds_in}
 use Rattle.krb_audit.specs.declared.selection.SelectedKvno.{SelectedKvno}
-use Rattle.krb_audit.specs.declared.selection.SelectedKvno.TheVariants.{Old, OldFor}
+use Rattle.krb_audit.specs.declared.selection.SelectedKvno.TheVariants.{Old}
 use Rattle.krb_audit.specs.declared.selection.Selection.{Selection}
-use Rattle.krb_audit.specs.Selection.{selected_in, is_named}
+use Rattle.krb_audit.specs.Selection.{selected_in, is_named, needs_clock}
 use Rattle.krb_editors.specs.declared.ktremove.RemoveOptions.{RemoveOptions}
 use Rattle.krb_driver.specs.declared.error.RunError.{RunError}
 use Rattle.krb_driver.specs.declared.error.RunError.TheVariants.{ClockNotRead}
@@ -21,15 +21,14 @@ use Rattle.krb_driver.specs.declared.verdict.FileKind.TheVariants.{Keytab}
 use Rattle.krb_driver.specs.declared.verdict.Verdict.{Verdict}
 use Rattle.krb_driver.specs.declared.verdict.Verdict.TheVariants.{Well, NothingToRemove, Without}
 use Rattle.krb_driver.specs.Commands.{CommandPlan, Effect, Displays, holds, opens, saves_unless, text}
-use Rattle.krb_driver.specs.Mistakes.{Matched, bad_seconds, first_value, twice, v1_order, MistakeParts, NothingSelects, OnlyWith}
+use Rattle.krb_driver.specs.Mistakes.{Matched, bad_seconds, first_value, twice, v1_order, MistakeParts, nothing_selects, only_with}
 use Rattle.krb_driver.specs.Loading.{whole_in}
 use Rattle.krb_driver.specs.Several.{label_of}
 use Rattle.krb_editors.specs.Selecting.{IsSpelledKvno, SpellsCriteria, asks_for_any, bad_criteria, bad_kvno}
 
 -- old entries are selected
 abbrev pub asks_for_old : SelectedKvno → Bool
-asks_for_old Old = true
-asks_for_old (OldFor seconds) = true
+asks_for_old (Old age) = true
 asks_for_old kvno = false
 
 -- the verdict if no entry is selected: `refused 9`, reported at the end of several files; with `-k old` all is well if no name or enctype is given, or some entry has them
@@ -52,11 +51,9 @@ abbrev pub ktremove_plan : {A : Type 0} → RemoveOptions A → ℕ → Bool →
 ktremove_plan o now are_several file =
     holds (not o.dry_run) file (opens file (whole_in o.v1_order) (λ k. Ends (removes o are_several file.name.now k (selected_in o.selection now k))))
 
--- the time that the selection needs: that of the clock, if an age is given
+-- the time, if the selection needs it, and otherwise 0
 abbrev pub needed_time : SelectedKvno → Option ℕ → Result ℕ RunError
-needed_time (OldFor seconds) (Some now) = Ok now
-needed_time (OldFor seconds) None = Err ClockNotRead
-needed_time kvno now = Ok 0
+needed_time kvno now = if needs_clock kvno then ok_or now ClockNotRead else Ok 0
 
 -- ---- what the words ask for
 
@@ -68,13 +65,17 @@ is_old_word (Some word) = bytes_eq word (codes "old")
 -- an age goes with another selection than old kvnos, or nothing selects
 abbrev pub odd_selection : Matched → Option MistakeParts
 odd_selection words =
-    if nat_lt 0 (length (words.values (codes "age"))) && not (is_old_word (first_value words (codes "kvno"))) then Some (OnlyWith (codes "--age") (codes "-k old"))
-    else (if (length (words.values (codes "principal")) == 0) && ((length (words.values (codes "kvno")) == 0) && (length (words.values (codes "enctype")) == 0)) then Some (NothingSelects (codes "-p, -k or -e"))
+    if nat_lt 0 (length (words.values (codes "age"))) && not (is_old_word (first_value words (codes "kvno"))) then Some (only_with (codes "--age") (codes "-k old"))
+    else (if (length (words.values (codes "principal")) == 0) && ((length (words.values (codes "kvno")) == 0) && (length (words.values (codes "enctype")) == 0)) then Some (nothing_selects (codes "-p, -k or -e"))
     else None)
+
+-- the old kvnos, with the age that is given
+abbrev pub old_kvno : Matched → SelectedKvno
+old_kvno words = Old (option_and_then seconds_in (first_value words (codes "age")))
 
 -- the first mistake of `-k` and `--age`
 abbrev pub kvno_mistake : Matched → Option MistakeParts
-kvno_mistake words = option_or (bad_kvno (codes "old") Old (first_value words (codes "kvno"))) (bad_seconds (first_value words (codes "age")))
+kvno_mistake words = option_or (bad_seconds (first_value words (codes "age"))) (bad_kvno (codes "old") (old_kvno words) (first_value words (codes "kvno")))
 
 -- the first mistake of the words
 abbrev pub remove_mistake : Matched → Option MistakeParts
@@ -83,16 +84,9 @@ remove_mistake words =
     (option_or (twice words (codes "age") (codes "--age") (codes "--age"))
     (option_or (odd_selection words) (option_or (kvno_mistake words) (bad_criteria words))))
 
--- the same kvnos, old ones only if they have been replaced for that many seconds
-abbrev pub with_age : Option ℕ → SelectedKvno → SelectedKvno
-with_age (Some seconds) Old = OldFor seconds
-with_age age kvno = kvno
-
--- the kvnos are those that `-k` selects, with the age that is given
-pub record SpellsKvno (words : Matched) (kvno : SelectedKvno) : Type 0 where
-  pub plain : SelectedKvno
-  pub is_spelled : IsSpelledKvno (codes "old") Old (first_value words (codes "kvno")) plain
-  pub aged : kvno ≡ with_age (option_and_then seconds_in (first_value words (codes "age"))) plain
+-- the kvnos are those that `-k` selects
+abbrev pub SpellsKvno : Matched → SelectedKvno → Type 0
+SpellsKvno words = IsSpelledKvno (codes "old") (old_kvno words) (first_value words (codes "kvno"))
 
 -- each option is what its own word spells
 pub record SpellsRemoval {A : Type 0} (words : Matched) (options : RemoveOptions A) : Type 0 where

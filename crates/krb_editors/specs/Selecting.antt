@@ -10,7 +10,7 @@ use Rattle.krb_text.specs.Numbers.{number_in}
 use Rattle.krb_audit.specs.declared.selection.SelectedKvno.{SelectedKvno}
 use Rattle.krb_audit.specs.declared.selection.SelectedKvno.TheVariants.{Any, Exactly}
 use Rattle.krb_audit.specs.declared.selection.Selection.{Selection}
-use Rattle.krb_driver.specs.Mistakes.{ArePrintedNames, AreSpelled, Matched, bad_etype, bad_name, first_mistake, MistakeParts, NoVersion}
+use Rattle.krb_driver.specs.Mistakes.{ArePrintedNames, AreSpelled, Matched, bad_etype, bad_name, first_mistake, MistakeParts, no_version}
 
 -- neither a name nor an enctype is given
 abbrev pub asks_for_any : {A : Type 0} → Selection A → Bool
@@ -23,7 +23,7 @@ kvno_in name named word = if bytes_eq word name then Some named else option_map 
 -- the mistake of a word that is neither that name nor a kvno
 abbrev pub bad_kvno : List ℕ → SelectedKvno → Option (List ℕ) → Option MistakeParts
 bad_kvno name named None = None
-bad_kvno name named (Some word) = if is_none (kvno_in name named word) then Some (NoVersion word) else None
+bad_kvno name named (Some word) = if is_none (kvno_in name named word) then Some (no_version word) else None
 
 -- the kvnos are those that the word selects, or any without a word
 abbrev pub IsSpelledKvno : List ℕ → SelectedKvno → Option (List ℕ) → SelectedKvno → Type 0

@@ -17,7 +17,7 @@ use krb_audit::{SelectedTickets, TicketCriteria, select_tickets};
 use krb_ccache::Ccache;
 use krb_driver::{
     CommandName, CommandWords, DRY_RUN, FileError, FileKind, FileName, IN_PLACE, Made, MakeResult,
-    Matches, Mistake, Output, OverFiles, RunEnd, RunError, Verdict, Word, WordFault, World,
+    Matches, Output, OverFiles, Phrase, RunEnd, RunError, Verdict, Word, WordFault, World,
     end_before, hold_if, label_of, open_writable, run_over, spelled_names, times_given,
 };
 use krb_files::Files;
@@ -85,7 +85,7 @@ pub fn ticket_options<'a, M: Matches<'a>>(
     let expired = matches.flag("expired");
     if times_given(matches, "service") == 0 && !all_services && !expired {
         let options = "-p, --all-services or --expired";
-        return Err(WordFault::from(Mistake::NothingSelects(options)));
+        return Err(WordFault::from(Phrase::NOTHING_SELECTS.of(options)));
     }
     let servers = spelled_names(alloc, matches, "service")?;
     Ok(TicketOptions {

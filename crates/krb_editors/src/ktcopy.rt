@@ -19,8 +19,8 @@ use krb_audit::{SelectedKvno, Selection, hides_added, selected_entries};
 use krb_copy::{Copied, copy_into};
 use krb_driver::{
     Command, CommandName, CommandWords, FileError, FileName, IN_PLACE, Made, MakeResult, Matches,
-    Mistake, Output, RunError, V1_BIG, Verdict, Word, WordFault, World, hold_if, open_whole,
-    open_whole_or_empty, refuse_twice, run, times_given, v1_order,
+    Mistake, Output, Phrase, RunError, V1_BIG, Verdict, Word, WordFault, World, hold_if,
+    open_whole, open_whole_or_empty, refuse_twice, run, times_given, v1_order,
 };
 use krb_files::Files;
 use krb_keytab::{EntryView, Keytab};
@@ -85,7 +85,7 @@ fn refuse_odd_new_name<'a, M: Matches<'a>>(matches: &M) -> Result<(), Mistake<'a
     ensures { Refuses (odd_new_name (M.matched matches.now)) result }
 {
     if times_given(matches, "as") > 0 && times_given(matches, "principal") != 1 {
-        return Err(Mistake::OnlyWithOne("--as", "-p"));
+        return Err(Phrase::ONLY_WITH_ONE.of_both("--as", "-p"));
     }
     Ok(())
 }

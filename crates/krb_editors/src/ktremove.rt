@@ -6,7 +6,7 @@ ghost use Rattle.krb_driver.specs.Several.{label_of};
 ghost use Rattle.krb_driver.specs.Commands.{text_effect, IsMade};
 ghost use Rattle.krb_driver.specs.declared.verdict.FileKind.TheVariants.{Keytab as OfKeytab};
 ghost use Rattle.krb_editors.specs.Removing.{RemovesWith};
-ghost use Rattle.krb_editors.specs.Ktremove.{SpellsKvno, SpellsRemoval, kvno_mistake, ktremove_plan, needed_time, none_verdict, odd_selection, remove_mistake, removes, with_age};
+ghost use Rattle.krb_editors.specs.Ktremove.{SpellsKvno, SpellsRemoval, kvno_mistake, ktremove_plan, needed_time, none_verdict, odd_selection, remove_mistake, removes};
 ghost use Rattle.krb_driver.specs.Mistakes.{Reads, Refuses, Spells};
 
 use crate::missing_files::is_one_missing;
@@ -15,9 +15,9 @@ use crate::selecting::{OF_ENCTYPE, OF_PRINCIPAL, spelled_kvno, spelled_selection
 use krb_audit::{Selected, SelectedKvno, Selection, select};
 use krb_driver::{
     CommandName, CommandWords, DRY_RUN, FileError, FileKind, FileName, IN_PLACE, Made, MakeResult,
-    Matches, Mistake, Output, OverFiles, RunEnd, RunError, V1_BIG, Verdict, Word, WordFault, World,
-    end_before, first_value, hold_if, label_of, open_whole, refuse_twice, run_over,
-    spelled_seconds, times_given, v1_order,
+    Matches, Mistake, Output, OverFiles, Phrase, RunEnd, RunError, V1_BIG, Verdict, Word,
+    WordFault, World, end_before, first_value, hold_if, label_of, open_whole, refuse_twice,
+    run_over, spelled_seconds, times_given, v1_order,
 };
 use krb_files::Files;
 use krb_keytab::Keytab;
@@ -81,21 +81,11 @@ fn refuse_unselected<'a, M: Matches<'a>>(matches: &M) -> Result<(), Mistake<'a>>
     let names = times_given(matches, "principal");
     let kvnos = times_given(matches, "kvno");
     if times_given(matches, "age") > 0 && first_value(matches, "kvno") != Some("old") {
-        Err(Mistake::OnlyWith("--age", "-k old"))
+        Err(Phrase::ONLY_WITH.of_both("--age", "-k old"))
     } else if names == 0 && kvnos == 0 && times_given(matches, "enctype") == 0 {
-        Err(Mistake::NothingSelects("-p, -k or -e"))
+        Err(Phrase::NOTHING_SELECTS.of("-p, -k or -e"))
     } else {
         Ok(())
-    }
-}
-
-// Returns the same kvnos, old ones only if they have been replaced for that many seconds.
-fn with_age(kvno: SelectedKvno, age: Option<u32>) -> SelectedKvno
-    ensures { result ≡ with_age age kvno }
-{
-    match (kvno, age) {
-        (SelectedKvno::Old, Some(seconds)) => SelectedKvno::OldFor(seconds),
-        _ => kvno,
     }
 }
 
@@ -103,9 +93,8 @@ fn with_age(kvno: SelectedKvno, age: Option<u32>) -> SelectedKvno
 fn removed_kvno<'a, M: Matches<'a>>(matches: &M) -> Result<SelectedKvno, Mistake<'a>>
     ensures { Spells (kvno_mistake (M.matched matches.now)) (SpellsKvno (M.matched matches.now)) result }
 {
-    let kvno = spelled_kvno(matches, "old", SelectedKvno::Old)?;
     let age = spelled_seconds(matches, "age")?;
-    Ok(with_age(kvno, age))
+    spelled_kvno(matches, "old", SelectedKvno::Old(age))
 }
 
 /// Returns the options of ktremove. Refuses a line that selects nothing, `-k` or `--age` given twice, `--age` without
@@ -140,10 +129,10 @@ struct RemoveEntries<'f, B: Allocator> {
 fn needed_time(kvno: SelectedKvno, now: Option<u32>) -> Result<u32, RunError>
     ensures { result ≡ needed_time kvno now }
 {
-    match (kvno, now) {
-        (SelectedKvno::OldFor(_), Some(now)) => Ok(now),
-        (SelectedKvno::OldFor(_), None) => Err(RunError::ClockNotRead),
-        _ => Ok(0),
+    if kvno.needs_clock() {
+        now.ok_or(RunError::ClockNotRead)
+    } else {
+        Ok(0)
     }
 }
 
@@ -156,7 +145,7 @@ fn none_verdict<B: Allocator>(
     ensures { result ≡ none_verdict are_several selection.now is_named }
 {
     let is_any = selection.names.is_empty() && selection.enctypes.is_empty();
-    let is_old = matches!(selection.kvno, SelectedKvno::Old | SelectedKvno::OldFor(_));
+    let is_old = matches!(selection.kvno, SelectedKvno::Old(_));
     if is_old && (is_any || is_named) {
         Verdict::Well
     } else if are_several {

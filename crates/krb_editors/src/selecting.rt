@@ -6,7 +6,8 @@ ghost use Rattle.krb_editors.specs.Selecting.{IsNewName, IsSpelledKvno, SpellsCr
 
 use krb_audit::{SelectedKvno, Selection};
 use krb_driver::{
-    Matches, Mistake, Spelled, Word, first_value, spelled_etypes, spelled_name, spelled_names,
+    Matches, Mistake, Phrase, Spelled, Word, first_value, spelled_etypes, spelled_name,
+    spelled_names,
 };
 use krb_text::parse_u32;
 use krb_wire::{NoMemory, Principal};
@@ -42,7 +43,7 @@ pub fn spelled_kvno<'a, M: Matches<'a>>(
         Some(word) if word == name => Ok(named),
         Some(word) => match parse_u32(word.as_bytes()) {
             Some(kvno) => Ok(SelectedKvno::Exactly(kvno)),
-            None => Err(Mistake::NoVersion(word)),
+            None => Err(Phrase::NO_VERSION.of(word)),
         },
     }
 }

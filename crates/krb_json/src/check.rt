@@ -11,8 +11,8 @@ ghost use Rattle.krb_json.specs.Pieces.{Adds, Begins, IsPlain, head_tokens};
 
 use crate::elements::Elements;
 use krb_audit::{CheckUp, Marked, is_open_file};
-use krb_findings::{ABOUT_ENTRIES, Finding};
 use krb_files::{OutFault, Watched};
+use krb_findings::{ABOUT_ENTRIES, Finding};
 use krb_wire::NoMemory;
 use std::alloc::Allocator;
 use std::io::Write;

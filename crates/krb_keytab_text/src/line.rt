@@ -6,7 +6,9 @@ ghost use Rattle.krb_keytab_text.specs.Listing.{entry_line, time_column, etype_c
 
 use crate::columns::KtColumns;
 use krb_keytab::{EntryView, Fields};
-use krb_text::{LastTime, append, append_byte, append_labelled, append_right_in_4, etype_text, key_text};
+use krb_text::{
+    LastTime, append, append_byte, append_labelled, append_right_in_4, etype_text, key_text,
+};
 use krb_wire::{Name, NoMemory, write_name};
 use std::alloc::Allocator;
 

@@ -25,7 +25,7 @@ use Rattle.krb_driver.specs.declared.verdict.FileKind.{FileKind}
 use Rattle.krb_driver.specs.declared.verdict.FileKind.TheVariants as file
 use Rattle.krb_driver.specs.Commands.{CommandPlan, Displays, Page, always, opens}
 use Rattle.krb_driver.specs.Loading.{cache_of, listed_in}
-use Rattle.krb_driver.specs.Mistakes.{Matched, twice, typed, v1_order, MistakeParts, DoNotGoTogether, ForKeytabs, OnlyWith, TakesOneFile, bad_seconds, first_value}
+use Rattle.krb_driver.specs.Mistakes.{Matched, twice, typed, v1_order, MistakeParts, does_not_go_with, for_keytabs, only_with, takes_one_file, bad_seconds, first_value}
 use Rattle.krb_driver.specs.RunErrors.{listing_verdict}
 use Rattle.krb_driver.specs.Several.{RunsOver, first_round}
 use Rattle.krb_driver.specs.declared.command.RunEnd.{RunEnd}
@@ -99,18 +99,18 @@ listing_page l file = page_of l.json l.is_after file l.of
 
 -- an option that is given does not go with another one, both as they were typed
 abbrev pub apart : Matched → List ℕ → List ℕ → List ℕ → List ℕ → Option MistakeParts
-apart words own name letter long = if words.flag name then Some (DoNotGoTogether own (typed words letter long)) else None
+apart words own name letter long = if words.flag name then Some (does_not_go_with own (typed words letter long)) else None
 
 -- an option does not go with `-k`, both as they were typed
 abbrev pub not_with_keytab : Matched → List ℕ → List ℕ → MistakeParts
-not_with_keytab words letter name = DoNotGoTogether (typed words letter name) (typed words (codes "-k") (codes "--keytab"))
+not_with_keytab words letter name = does_not_go_with (typed words letter name) (typed words (codes "-k") (codes "--keytab"))
 
 -- the first option that goes only with `-k`
 abbrev pub odd_with_cache : Matched → Option MistakeParts
 odd_with_cache words =
-    if words.flag (codes "times") then Some (ForKeytabs (typed words (codes "-t") (codes "--times")))
-    else (if words.flag (codes "keys") then Some (ForKeytabs (typed words (codes "-K") (codes "--keys")))
-    else (if words.flag (codes "v1-big") then Some (ForKeytabs (codes "--v1-big"))
+    if words.flag (codes "times") then Some (for_keytabs (typed words (codes "-t") (codes "--times")))
+    else (if words.flag (codes "keys") then Some (for_keytabs (typed words (codes "-K") (codes "--keys")))
+    else (if words.flag (codes "v1-big") then Some (for_keytabs (codes "--v1-big"))
     else None))
 
 -- the first option that is for the other kind of file, if there is one
@@ -126,7 +126,7 @@ odd_option words =
 abbrev pub odd_seconds : Matched → Option MistakeParts
 odd_seconds words =
     option_or (twice words (codes "for") (codes "--for") (codes "--for"))
-    (if nat_lt 0 (length (words.values (codes "for"))) && not (words.flag (codes "silent")) then Some (OnlyWith (codes "--for") (codes "-s")) else None)
+    (if nat_lt 0 (length (words.values (codes "for"))) && not (words.flag (codes "silent")) then Some (only_with (codes "--for") (codes "-s")) else None)
 
 -- the first mistake in the words of a listing
 abbrev pub list_mistake : Matched → Option MistakeParts
@@ -231,7 +231,7 @@ odd_with_silent words =
 
 -- several files are given to `-s`
 abbrev pub odd_files : Matched → Option MistakeParts
-odd_files words = if nat_lt 1 (length (words.values (codes "FILE"))) then Some (TakesOneFile (silent words)) else None
+odd_files words = if nat_lt 1 (length (words.values (codes "FILE"))) then Some (takes_one_file (silent words)) else None
 
 -- the first mistake of the words
 abbrev pub check_mistake : Matched → Option MistakeParts

@@ -23,7 +23,7 @@ use Rattle.krb_driver.specs.declared.verdict.Verdict.{Verdict}
 use Rattle.krb_driver.specs.declared.verdict.Verdict.TheVariants.{Found}
 use Rattle.krb_driver.specs.Commands.{CommandPlan, Displays, Effect, EndsBefore, Fails, Page, output_page, text, tries}
 use Rattle.krb_driver.specs.Loading.{keytab_in}
-use Rattle.krb_driver.specs.Mistakes.{ArePrintedNames, AreSpelledSeconds, Matched, MistakeParts, NoFinding, bad_name, bad_seconds, first_mistake, first_value, twice, v1_order}
+use Rattle.krb_driver.specs.Mistakes.{ArePrintedNames, AreSpelledSeconds, Matched, MistakeParts, no_finding, bad_name, bad_seconds, first_mistake, first_value, twice, v1_order}
 use Rattle.krb_driver.specs.RunErrors.{Ending, error_status, said_of_file, verdict_status}
 use Rattle.krb_driver.specs.Several.{RunsOver, first_round, label_of}
 use Rattle.krb_readers.specs.declared.ktcheck.page.CheckPage.{CheckPage}
@@ -134,7 +134,7 @@ finding word = find (λ f. bytes_eq (row_of f).word word) FINDINGS
 
 -- the mistake in a word that is no finding
 abbrev pub bad_finding : List ℕ → Option MistakeParts
-bad_finding word = if is_none (finding word) then Some (NoFinding word) else None
+bad_finding word = if is_none (finding word) then Some (no_finding word) else None
 
 -- the same, as a set
 abbrev pub finding_set : List ℕ → FindingSet

@@ -15,7 +15,7 @@ use Rattle.krb_driver.specs.declared.verdict.FileKind.TheVariants.{Keytab}
 use Rattle.krb_driver.specs.declared.verdict.Verdict.TheVariants.{Well}
 use Rattle.krb_driver.specs.declared.file_name.FileName.{FileName}
 use Rattle.krb_driver.specs.Commands.{CommandPlan, Effect, Fails, Displays, opens, text}
-use Rattle.krb_driver.specs.Mistakes.{IsSpelledName, Matched, bad_etype, bad_name, v1_order, MistakeParts, NoVersion}
+use Rattle.krb_driver.specs.Mistakes.{IsSpelledName, Matched, bad_etype, bad_name, v1_order, MistakeParts, no_version}
 use Rattle.krb_driver.specs.Loading.{keytab_in}
 
 -- the line of an entry that was found, or why none was
@@ -36,7 +36,7 @@ ktfind_plan o file = opens file (keytab_in o.v1_order) (λ k. Ends (finds o file
 -- the first of the three words that is not a kvno, an enctype or a principal name
 abbrev pub find_mistake : Matched → Option MistakeParts
 find_mistake words =
-    if is_none (number_in 32 (words.operand (codes "KVNO"))) then Some (NoVersion (words.operand (codes "KVNO")))
+    if is_none (number_in 32 (words.operand (codes "KVNO"))) then Some (no_version (words.operand (codes "KVNO")))
     else option_or (bad_etype (words.operand (codes "ETYPE"))) (bad_name (words.operand (codes "NAME")))
 
 -- each option is what its own word spells

@@ -13,7 +13,7 @@ use Rattle.krb_driver.specs.declared.verdict.FileKind.TheVariants.{Keytab, Cache
 use Rattle.krb_driver.specs.Commands.{CommandPlan, Displays, Effect, EndsBefore, always, opens, text}
 use Rattle.krb_driver.specs.Either.{EitherState, OfKeytab, OfCache, contents_in, damage_of}
 use Rattle.krb_driver.specs.FileNames.{shown_name}
-use Rattle.krb_driver.specs.Mistakes.{DoNotGoTogether, Matched, MistakeParts, typed, v1_order}
+use Rattle.krb_driver.specs.Mistakes.{does_not_go_with, Matched, MistakeParts, typed, v1_order}
 use Rattle.krb_driver.specs.RunErrors.{listing_verdict}
 use Rattle.krb_driver.specs.Several.{RunsOver, first_round}
 use Rattle.krb_readers.specs.declared.show.words.ShowOptions.{ShowOptions}
@@ -53,7 +53,7 @@ module _ {F R W E : Type 0} (trait : Ghosts F) (order : Order) (old new : World 
 abbrev pub show_mistake : Matched → Option MistakeParts
 show_mistake words =
     if words.flag (codes "keytab") && nat_lt 0 (length (words.values (codes "FILE")))
-    then Some (DoNotGoTogether (typed words (codes "-k") (codes "--keytab")) (codes "FILE")) else None
+    then Some (does_not_go_with (typed words (codes "-k") (codes "--keytab")) (codes "FILE")) else None
 
 -- what the default is: a cache unless `-k` is given
 abbrev pub default_kind : Matched → FileKind

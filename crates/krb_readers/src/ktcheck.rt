@@ -9,12 +9,12 @@ ghost use Rattle.krb_readers.specs.Ktcheck.{ChecksAll, aged_by, check_page, expl
 
 use crate::ktcheck::page::{CheckObject, CheckPage, check_lines};
 use crate::ktcheck::words::CheckOptions;
-use krb_findings::FindingSet;
 use krb_driver::{
     FileError, FileName, Made, MakeResult, OverFiles, RunEnd, RunError, Verdict, World, end_before,
     run_over, try_keytab,
 };
 use krb_files::Files;
+use krb_findings::FindingSet;
 use krb_keytab::Keytab;
 use std::alloc::Allocator;
 use std::io::{Read, Write};

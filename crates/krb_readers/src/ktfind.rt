@@ -6,8 +6,8 @@ ghost use Rattle.krb_readers.specs.Ktfind.{SpellsEntry, find_mistake, finds, ktf
 ghost use Rattle.krb_driver.specs.Mistakes.{Reads};
 
 use krb_driver::{
-    Command, CommandName, CommandWords, FileError, FileName, Made, MakeResult, Matches, Mistake,
-    Output, RunError, V1_BIG, Verdict, Word, WordFault, World, open_keytab, run, spelled_etype,
+    Command, CommandName, CommandWords, FileError, FileName, Made, MakeResult, Matches, Output,
+    Phrase, RunError, V1_BIG, Verdict, Word, WordFault, World, open_keytab, run, spelled_etype,
     spelled_name, v1_order,
 };
 use krb_files::Files;
@@ -65,7 +65,7 @@ pub fn find_options<'a, M: Matches<'a>>(
 {
     let version = matches.operand("KVNO");
     let Some(kvno) = parse_u32(version.as_bytes()) else {
-        return Err(WordFault::from(Mistake::NoVersion(version)));
+        return Err(WordFault::from(Phrase::NO_VERSION.of(version)));
     };
     let enctype = spelled_etype(matches.operand("ETYPE"))?;
     let name = spelled_name(alloc, matches.operand("NAME"))?;

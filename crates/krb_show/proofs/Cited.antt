@@ -1,5 +1,5 @@
 -- The names that the proofs cite most, passed on from one place. Declares nothing.
-pub use Rattle.std.proofs.Common.{◌≡◌, ◌+◌, ◌-◌, append_assoc, append-nil, ◌⊎◌, inl, inr, length, ◌++◌, ◌∙◌, ap, ℕ, List, [], ◌∷◌, drop, sym, subst, get_or, map, drop-cons, add-one, Bool, true, false, cond, not, refl, true≢false, arith}
+pub use Rattle.std.proofs.Common.{◌≡◌, ◌+◌, ◌-◌, append_assoc, append-nil, ◌⊎◌, inl, inr, length, ◌++◌, ◌∙◌, ap, ℕ, List, [], ◌∷◌, drop, sym, subst, get_or, map, drop-cons, add-one, Bool, true, false, cond, not, refl, true≢false, None, arith}
 pub use Rattle.std.proofs.lemmas.List.{drop_all, drop_more, get_or_past}
 pub use Rattle.std.proofs.lemmas.Result.{on_ok_weaker}
 pub use Rattle.krb_text.proofs.Passing.{gathered_then}

@@ -111,7 +111,7 @@ impl<'a, A: Allocator + Copy> SoFar<'a, A> {
         ensures { IfOk result (AreSoFar (placed_entries keytab.now.state) (placed_entries keytab.now.state)) }
     {
         let rows = rows_of(alloc, keytab)?;
-        let are_old = marks_of(alloc, &rows, SelectedKvno::Old, 0)?;
+        let are_old = marks_of(alloc, &rows, SelectedKvno::Old(None), 0)?;
         Ok(SoFar {
             rows: rows.into_iter(),
             are_old: are_old.into_iter(),

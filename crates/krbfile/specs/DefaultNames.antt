@@ -16,7 +16,7 @@ use Rattle.krb_driver.specs.declared.file_name.NameSource.TheVariants.{CacheVari
 use Rattle.krb_driver.specs.declared.verdict.FileKind.{FileKind}
 use Rattle.krb_driver.specs.declared.verdict.FileKind.TheVariants.{Keytab}
 use Rattle.krb_driver.specs.FileNames.{IsNamed}
-use Rattle.krb_driver.specs.Mistakes.{IsOf, IsRefusal, Missing, VariableNotText}
+use Rattle.krb_driver.specs.Mistakes.{IsOf, IsRefusal, missing, variable_not_text}
 use Rattle.krb_text.specs.Numbers.{number_in}
 use Rattle.krb_text.specs.Word.{pieces}
 use Rattle.krbfile.specs.declared.default_name.FoundName.{FoundName}
@@ -48,7 +48,7 @@ abbrev pub GivesName : LeftOut → List ℕ → Result (List ℕ) VarError → O
 GivesName file command (Ok []) found = found ≡ None
 GivesName file command (Ok (b ∷ bytes)) (Some found) = parts_of found ≡ (file.kind, (variable_of file.default).1, Ok (b ∷ bytes))
 GivesName file command (Err var.NotPresent) found = found ≡ None
-GivesName file command (Err var.NotUnicode) (Some found) = IsErrAnd found.text (IsRefusal command (Some (VariableNotText (variable_of file.default).0)))
+GivesName file command (Err var.NotUnicode) (Some found) = IsErrAnd found.text (IsRefusal command (Some (variable_not_text (variable_of file.default).0)))
 GivesName file command (Err var.OutOfMemory) (Some found) = found.text ≡ Err NoMemory
 GivesName file command answer found = ⊥
 
@@ -56,7 +56,7 @@ GivesName file command answer found = ⊥
 abbrev pub IsCacheOf : Option ℕ → Result (List ℕ) WordFault → Type 0
 IsCacheOf (Some user) (Ok text) = text ≡ codes "/tmp/krb5cc_" ++ decimal user
 IsCacheOf (Some user) (Err fault) = fault ≡ NoMemory
-IsCacheOf None text = IsErrAnd text (IsOf (Some (Missing (codes "FILE"))))
+IsCacheOf None text = IsErrAnd text (IsOf (Some (missing (codes "FILE"))))
 
 -- the default name of a cache, by what was read of the process
 abbrev pub IsCacheName : Result (List ℕ) Error → Result (List ℕ) WordFault → Type 0

@@ -6,7 +6,7 @@ ghost use Rattle.std.specs.Result.{result_map_both};
 ghost use Rattle.krb_driver.specs.Mistakes.{in_command};
 ghost use Rattle.krbfile.specs.DefaultNames.{GivesName, IsCacheName, IsCacheOf, IsFile, first_number, parts_of, user_in, variable_of};
 
-use krb_commands::{DefaultName, FileKind, FileName, LeftOut, Mistake, NameSource, WordFault};
+use krb_commands::{DefaultName, FileKind, FileName, LeftOut, NameSource, Phrase, WordFault};
 use krb_text::{Lines, parse_u32};
 use std::alloc::Global;
 use std::env::VarError;
@@ -33,7 +33,7 @@ impl FoundName {
         FoundName {
             kind: FileKind::Keytab,
             source: NameSource::Default,
-            text: Err(WordFault::from(Mistake::Missing("FILE"))),
+            text: Err(WordFault::from(Phrase::MISSING.of("FILE"))),
         }
     }
 
@@ -84,7 +84,7 @@ fn cache_of(alloc: Global, user: Option<u32>) -> Result<String, WordFault<'stati
 {
     match user {
         Some(user) => Ok(format!(in alloc; "/tmp/krb5cc_{user}")?),
-        None => Err(WordFault::from(Mistake::Missing("FILE"))),
+        None => Err(WordFault::from(Phrase::MISSING.of("FILE"))),
     }
 }
 
@@ -153,7 +153,7 @@ fn given_name(
         Err(VarError::NotPresent) => return None,
         Ok(text) => Ok(text),
         Err(VarError::NotUnicode) => {
-            Err(WordFault::from(Mistake::VariableNotText(variable)).in_command(command))
+            Err(WordFault::from(Phrase::VARIABLE_NOT_TEXT.of(variable)).in_command(command))
         }
         Err(VarError::OutOfMemory) => Err(WordFault::NoMemory),
     };

@@ -1,13 +1,14 @@
 //! The command line, and its run.
 
-ghost use Rattle.std.specs.Prelude.{◌≡◌, ◌↔◌, ℕ, IsTrue, Option, bytes_eq, codes};
+ghost use Rattle.std.specs.Prelude.{◌≡◌, ◌↔◌, ℕ, IsTrue, Option, Some, bytes_eq, codes};
 ghost use Rattle.krb_commands.specs.Actions.{DefaultName, EndsParsed};
+ghost use Rattle.krb_driver.specs.Mistakes.{IsOf, not_text};
 ghost use Rattle.krbfile.specs.Silence.{is_silent};
 
 use crate::default_name::{FoundName, found_name};
 use krb_command_line::{Request, parse_words};
 use krb_commands::{
-    Action, COMMANDS, Mistake, Needs, WordFault, World, action_of, respond,
+    Action, COMMANDS, Needs, Phrase, WordFault, World, action_of, respond,
     words_of as command_words,
 };
 use krb_files::{Files, Watched, put};
@@ -84,12 +85,19 @@ pub fn asks_for_silence<R: rt::Env>(rt: &R) -> bool {
         && (first + 1..MOST).any(|number| is_silent(word_of(rt, number, &mut [0; 16])))
 }
 
+// Returns the fault of a line with an argument that is not UTF-8.
+fn not_text() -> WordFault<'static>
+    ensures { IsOf (Some not_text) result }
+{
+    WordFault::from(Phrase::NOT_TEXT.of(""))
+}
+
 /// Returns the words of the command line. If one is not UTF-8, the line is bad.
 pub fn words_of<R: rt::Env + AllocGlobal>(rt: &R) -> Result<Vec<String>, WordFault<'static>> {
     match env::args(rt) {
         Ok(words) => Ok(words.collect(rt.alloc())?),
         Err(error) if error.kind() == io::ErrorKind::OutOfMemory => Err(WordFault::NoMemory),
-        Err(_) => Err(WordFault::from(Mistake::NotText)),
+        Err(_) => Err(not_text()),
     }
 }
 

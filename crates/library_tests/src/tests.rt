@@ -3,7 +3,6 @@
 mod caches;
 mod files;
 mod holds;
-mod keytabs;
 mod made;
 mod readme;
 mod sessions;

@@ -2,7 +2,7 @@
 pub use Rattle.std.proofs.Common.{refl, arith}
 pub use Rattle.std.specs.List.{flat_map, filter_map, list_any}
 pub use Rattle.std.specs.Prelude.{codes, true, ◌≡◌, false, Some, Ok, None, ◌++◌, Err, [], ◌∷◌, ℕ, map, List, option_map, replicate, Result, ◌+◌, length, Bool, if◌then◌else◌, Option, nat_lt, filter, option_and_then, unwrap_or, pos, negsuc, fold, ◌*◌, ◌-◌, Vec, ◌^◌, slice_get, ◌≤◌, ◌<◌, max, nat_eq, ◌&&◌}
-pub use Rattle.krb_audit.specs.declared.selection.SelectedKvno.TheVariants.{Old, OldFor, Newest, Any}
+pub use Rattle.krb_audit.specs.declared.selection.SelectedKvno.TheVariants.{Old, Newest, Any}
 pub use Rattle.krb_ccache.specs.Credential.{CredParts}
 pub use Rattle.krb_driver.specs.Commands.{Saves, CommandPlan, Displays, Effect, Fails, files_after}
 pub use Rattle.krb_driver.specs.Loading.{result_map}
@@ -32,6 +32,6 @@ pub use Rattle.krb_driver.specs.RunErrors.{Ending, ending_status, end_status, er
 pub use Rattle.krb_driver.specs.Runs.{ending_text, ErrorWatch}
 pub use Rattle.krb_editors.specs.MissingFiles.{is_missing, missing_error}
 pub use Rattle.krb_editors.specs.Removing.{is_none, seen_after}
-pub use Rattle.krb_editors.specs.Ktremove.{ktremove_plan, with_age, needed_time}
+pub use Rattle.krb_editors.specs.Ktremove.{ktremove_plan, old_kvno, needed_time}
 pub use Rattle.krb_ktutil.specs.KtutilTalk.{TalkDue, quiet_run, talk_due, first_talk}
 pub use Rattle.krb_editors.specs.Hold.{frame, framed, most_frame, held_in, received}

@@ -1,5 +1,5 @@
 -- How runs end, when they read the clock, and what hold takes: worked by hand from krbfile(1).
-use Rattle.samples.proofs.Cited.{◌≡◌, ◌+◌, ℕ, [], ◌∷◌, map, codes, true, false, None, Some, Ok, Err, refl, Little, most_bytes, Old, OldFor, Well, CommandPlan, ended_by, node_of, FileName, Word, Default, ErrorWatch, end_status, error_status, save_error, frame, most_frame, held_in, received, needed_time, is_missing, first_talk}
+use Rattle.samples.proofs.Cited.{◌≡◌, ◌+◌, ℕ, [], ◌∷◌, map, codes, true, false, None, Some, Ok, Err, refl, Little, most_bytes, Old, Well, CommandPlan, ended_by, node_of, FileName, Word, Default, ErrorWatch, end_status, error_status, save_error, frame, most_frame, held_in, received, needed_time, is_missing, first_talk}
 use Rattle.krb_wire.specs.declared.format.Order.{Order}
 use Rattle.krb_walk.specs.declared.fault.FaultKind.TheVariants.{CutLength}
 use Rattle.krb_files.specs.declared.aftermath.Aftermath.TheVariants.{Damaged, LostChange, Mixed, Restored}
@@ -69,10 +69,10 @@ no-such-file file is = rw is refl
 -- ---- the clock
 
 -- an age needs the clock
-age-without-clock : needed_time (OldFor 3600) None ≡ Err error.ClockNotRead
+age-without-clock : needed_time (Old (Some 3600)) None ≡ Err error.ClockNotRead
 age-without-clock = refl
 
-old-without-clock : needed_time Old None ≡ Ok 0
+old-without-clock : needed_time (Old None) None ≡ Ok 0
 old-without-clock = refl
 
 expired-without-clock : {A : Type 0} (o : TicketOptions A) → o.expired ≡ true → ended_by o None ≡ Err error.ClockNotRead

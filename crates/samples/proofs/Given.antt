@@ -54,7 +54,7 @@ found image text kvno etype = find_result (keytab image) (name text) kvno etype
 
 -- the entries of a keytab that `-k old` selects
 abbrev pub old : KeytabState → List PlacedEntry
-old k = filter (λ x. has_selected_kvno Old 0 (placed_entries k) x.1) (placed_entries k)
+old k = filter (λ x. has_selected_kvno (Old None) 0 (placed_entries k) x.1) (placed_entries k)
 
 -- ---- listings
 

@@ -1,5 +1,5 @@
 -- What a run of a command comes to if no call fails: what it prints, how it ends, and its files afterwards.
-use Rattle.samples.proofs.Cited.{◌≡◌, ℕ, ◌+◌, ◌<◌, ◌≤◌, ◌^◌, max, List, [], ◌∷◌, ◌++◌, codes, length, map, fold, Bool, true, false, nat_lt, Option, None, Some, option_and_then, unwrap_or, Result, Ok, Err, if◌then◌else◌, Vec, slice_get, filter_map, flat_map, list_any, arith, refl, name_of, most_bytes, event_in, Any, Newest, Old, Well, CommandPlan, Effect, Fails, Displays, Saves, files_after, ccremove_plan, nat_eq, filter, ◌&&◌, Parts, FileMap, loaded, node_of, etype_in, number_in, seconds_in, none, RunEnd, NothingSelected, FileName, LikePrincipal, Word, Ending, ending_status, ending_text, is_missing, missing_error, is_none, seen_after, ktremove_plan, with_age, TalkDue, quiet_run, talk_due}
+use Rattle.samples.proofs.Cited.{◌≡◌, ℕ, ◌+◌, ◌<◌, ◌≤◌, ◌^◌, max, List, [], ◌∷◌, ◌++◌, codes, length, map, fold, Bool, true, false, nat_lt, Option, None, Some, option_and_then, unwrap_or, Result, Ok, Err, if◌then◌else◌, Vec, slice_get, filter_map, flat_map, list_any, arith, refl, name_of, most_bytes, event_in, Any, Newest, Well, CommandPlan, Effect, Fails, Displays, Saves, files_after, ccremove_plan, nat_eq, filter, ◌&&◌, Parts, FileMap, loaded, node_of, etype_in, number_in, seconds_in, none, RunEnd, NothingSelected, FileName, LikePrincipal, Word, Ending, ending_status, ending_text, is_missing, missing_error, is_none, seen_after, ktremove_plan, old_kvno, TalkDue, quiet_run, talk_due}
 use Rattle.std.specs.Str.{bytes_eq}
 use denote.RawPtr.{null_ptr}
 use lib.Dec.{lit<, lit≤}
@@ -248,7 +248,7 @@ removes explains kind plan files ws = looked (filter (λ file. is_missing file (
 -- at a second, which is asked for with `--age` alone
 abbrev pub ktremove : Bool → ℕ → FileMap → Matched → Seen
 ktremove explains now files ws = removes explains Keytab (ktremove_plan (record {
-  selection = selection (with_age (option_and_then seconds_in (first_value ws (codes "age"))) (kvno_of (codes "old") Old ws)) ws;
+  selection = selection (kvno_of (codes "old") (old_kvno ws) ws) ws;
   dry_run = ws.flag (codes "dry-run");
   v1_order = v1_order ws;
 }) now) files ws

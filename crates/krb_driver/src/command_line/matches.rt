@@ -3,7 +3,7 @@
 ghost use Rattle.std.specs.Prelude.{◌≡◌, length, option_map};
 ghost use Rattle.krb_driver.specs.Mistakes.{first_value, twice, typed, v1_order, Refuses};
 
-use crate::command_line::mistake::Mistake;
+use crate::command_line::mistake::{Mistake, Phrase};
 use krb_wire::Order;
 
 /// The flags, operands and option values of a command line, by the names of its command's words.
@@ -55,7 +55,7 @@ pub fn refuse_twice<'a, M: Matches<'a>>(
     ensures { Refuses (twice (M.matched matches.now) name.now letter.now long.now) result }
 {
     if times_given(matches, name) > 1 {
-        return Err(Mistake::Twice(typed(matches, letter, long)));
+        return Err(Phrase::TWICE_GIVEN.of(typed(matches, letter, long)));
     }
     Ok(())
 }

@@ -7,7 +7,7 @@ ghost use Rattle.krb_text.specs.Etype.{etype_in};
 ghost use Rattle.krb_driver.specs.Mistakes.{ArePrintedNames, AreSpelled, AreSpelledSeconds, IsSpelled, IsSpelledName, bad_etype, bad_name, bad_seconds, first_mistake, first_value, Spells, SpellsInMemory};
 
 use crate::command_line::matches::{Matches, first_value};
-use crate::command_line::mistake::Mistake;
+use crate::command_line::mistake::{Mistake, Phrase};
 use krb_text::{etype_of, parse_seconds};
 use krb_wire::{NameFault, NoMemory, Principal, parse_name, write_name};
 use std::alloc::Global;
@@ -22,7 +22,7 @@ pub fn spelled_name<'a>(alloc: Global, word: &'a str) -> Spelled<'a, Principal<G
     match parse_name(alloc, word.as_bytes(), None) {
         Ok(name) => Ok(Ok(name)),
         Err(NameFault::NoMemory) => Ok(Err(NoMemory)),
-        Err(fault) => Err(Mistake::BadName(word, fault)),
+        Err(fault) => Err(Phrase::FAULTY_NAME.of_both(word, fault.phrase())),
     }
 }
 
@@ -72,7 +72,7 @@ pub fn spelled_etype<'a>(word: &'a str) -> Result<u16, Mistake<'a>>
 {
     match etype_of(word.as_bytes()) {
         Some(etype) => Ok(etype),
-        None => Err(Mistake::NoEtype(word)),
+        None => Err(Phrase::NO_ETYPE.of(word)),
     }
 }
 
@@ -107,6 +107,6 @@ pub fn spelled_seconds<'a, M: Matches<'a>>(
     };
     match parse_seconds(word.as_bytes()) {
         Some(seconds) => Ok(Some(seconds)),
-        None => Err(Mistake::NoTime(word)),
+        None => Err(Phrase::NO_TIME.of(word)),
     }
 }

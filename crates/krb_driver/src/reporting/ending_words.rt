@@ -18,8 +18,8 @@ use crate::reporting::reported::{Failure, Reported};
 use crate::reporting::words::{error_words, listed_words, refusal_phrase, verdict_words};
 use crate::reporting::writing::{Gathered, add_pieces};
 use crate::verdict::{FileKind, Findings, Verdict};
-use krb_findings::{FINDINGS, Finding, FindingSet};
 use krb_files::Watched;
+use krb_findings::{FINDINGS, Finding, FindingSet};
 use krb_walk::Fault;
 use std::io::Write;
 

@@ -1,11 +1,11 @@
 //! The messages for a command line that was not read.
 
 ghost use Rattle.std.specs.Prelude.{◌≡◌, ℕ, List, [], ◌++◌, codes, option_map};
-ghost use Rattle.krb_driver.specs.Messages.{message, pieces_before, pieces_text, quoted_word, shown_word};
+ghost use Rattle.krb_driver.specs.Messages.{message, pieces_before, pieces_text};
 ghost use Rattle.krb_driver.specs.Mistakes.{help_of, mistake_head, mistake_line, mistake_parts, mistake_words, more_words, word_status, word_text};
 ghost use Rattle.krb_driver.specs.Runs.{Writes};
 
-use crate::command_line::mistake::{BadLine, Mistake, More, WordFault};
+use crate::command_line::mistake::{BadLine, Mistake, More, Phrase, WordFault};
 use crate::reporting::ErrorOutput;
 use crate::reporting::piece::MessagePiece::{self, Quoted, Text, Word};
 use crate::reporting::piece::NONE;
@@ -17,88 +17,24 @@ use std::io::Write;
 const HEAD: MessagePiece<'static> = Text("krbfile: bad command line\nkrbfile: ");
 
 /// The pieces of the message for a bad command line. Unused ones are empty.
-type Line<'a> = [MessagePiece<'a>; 5];
-
-// A text alone.
-fn alone<'a>(text: &'static str) -> Line<'a>
-    ensures { (rest : List ℕ) → pieces_before result rest ≡ mistake_head ++ (text.now ++ rest) }
-{
-    [HEAD, Text(text), NONE, NONE, NONE]
-}
-
-// A text, and a word after it.
-fn before<'a>(text: &'static str, word: &'a str) -> Line<'a>
-    ensures { (rest : List ℕ) → pieces_before result rest
-        ≡ mistake_head ++ (text.now ++ (shown_word word.now ++ rest)) }
-{
-    [HEAD, Text(text), Word(word), NONE, NONE]
-}
-
-// A word, and a text after it.
-fn after<'a>(word: &'a str, text: &'static str) -> Line<'a>
-    ensures { (rest : List ℕ) → pieces_before result rest
-        ≡ mistake_head ++ (shown_word word.now ++ (text.now ++ rest)) }
-{
-    [HEAD, Word(word), Text(text), NONE, NONE]
-}
-
-// A word in quotes, and what is wrong with it, in two texts.
-fn quoted<'a>(word: &'a str, verb: &'static str, what: &'static str) -> Line<'a>
-    ensures { (rest : List ℕ) → pieces_before result rest
-        ≡ mistake_head ++ (quoted_word word.now ++ (verb.now ++ (what.now ++ rest))) }
-{
-    [HEAD, Quoted(word), Text(verb), Text(what), NONE]
-}
-
-// Two options, and a text between them.
-fn between<'a>(option: &'a str, text: &'static str, other: &'a str) -> Line<'a>
-    ensures { (rest : List ℕ) → pieces_before result rest
-        ≡ mistake_head ++ (shown_word option.now ++ (text.now ++ (shown_word other.now ++ rest))) }
-{
-    [HEAD, Word(option), Text(text), Word(other), NONE]
-}
-
-// An option that goes with another one only.
-fn only_with<'a>(option: &'a str, other: &'a str) -> Line<'a>
-    ensures { (rest : List ℕ) → pieces_before result rest
-        ≡ mistake_head ++ (shown_word option.now ++ (codes " goes with " ++ (shown_word other.now ++ (codes " alone" ++ rest)))) }
-{
-    [
-        HEAD,
-        Word(option),
-        Text(" goes with "),
-        Word(other),
-        Text(" alone"),
-    ]
-}
+type Line<'a> = [MessagePiece<'a>; 6];
 
 // Returns the message for a mistake.
 fn mistake_pieces(mistake: Mistake<'_>) -> Line<'_>
     ensures { (rest : List ℕ) → pieces_before result rest
         ≡ mistake_head ++ mistake_line (mistake_parts mistake.entry) rest }
 {
-    match mistake {
-        Mistake::NoCommand => alone("no command"),
-        Mistake::UnknownCommand(name) => before("unknown command ", name),
-        Mistake::UnknownOption(option) => before("unknown option ", option),
-        Mistake::UnknownLetter(letter) => before("unknown option -", letter),
-        Mistake::Missing(operand) => before("no ", operand),
-        Mistake::LeftOver(word) => before("left over: ", word),
-        Mistake::NeedsValue(option) => after(option, " needs a value"),
-        Mistake::Twice(option) => after(option, " is given twice"),
-        Mistake::TakesOneFile(option) => after(option, " takes one FILE"),
-        Mistake::DoNotGoTogether(option, other) => between(option, " does not go with ", other),
-        Mistake::ForKeytabs(option) => after(option, " is for keytabs; give -k"),
-        Mistake::OnlyWith(option, other) => only_with(option, other),
-        Mistake::OnlyWithOne(option, other) => between(option, " goes with one ", other),
-        Mistake::NoVersion(kvno) => quoted(kvno, " is no ", "version"),
-        Mistake::NoEtype(etype) => quoted(etype, " is no ", "encryption type"),
-        Mistake::NoTime(word) => quoted(word, " is no ", "time (90, 15m, 10h, 7d)"),
-        Mistake::NoFinding(word) => quoted(word, " is no ", "finding"),
-        Mistake::BadName(name, fault) => quoted(name, " has ", fault.phrase()),
-        Mistake::NothingSelects(options) => before("nothing selects; give ", options),
-        Mistake::NotText => alone("an argument is not UTF-8"),
-        Mistake::VariableNotText(name) => after(name, " is not UTF-8"),
+    let (word, other) = (mistake.word, Word(mistake.other));
+    match mistake.phrase {
+        Phrase::Shown(before, between, after) => [
+            HEAD,
+            Text(before),
+            Word(word),
+            Text(between),
+            other,
+            Text(after),
+        ],
+        Phrase::Quoted(between) => [HEAD, Quoted(word), Text(between), other, NONE, NONE],
     }
 }
 

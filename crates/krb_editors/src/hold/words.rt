@@ -5,7 +5,7 @@ ghost use Rattle.krb_driver.specs.Mistakes.{Spells};
 ghost use Rattle.krb_editors.specs.Hold.{hold_kind, hold_mistake};
 
 use krb_driver::{
-    CommandName, CommandWords, FileKind, IN_PLACE, Matches, Mistake, V1_BIG, Word, v1_order,
+    CommandName, CommandWords, FileKind, IN_PLACE, Matches, Mistake, Phrase, V1_BIG, Word, v1_order,
 };
 use krb_wire::Order;
 
@@ -66,7 +66,7 @@ pub fn hold_kind<'a, M: Matches<'a>>(matches: &M) -> Result<HoldKind, Mistake<'a
     if matches.flag("keytab") {
         Ok(HoldKind::Keytab(v1_order(matches)))
     } else if matches.flag("v1-big") {
-        Err(Mistake::ForKeytabs("--v1-big"))
+        Err(Phrase::FOR_KEYTABS.of("--v1-big"))
     } else {
         Ok(HoldKind::Cache)
     }

@@ -7,7 +7,9 @@ ghost use Rattle.krb_keytab_text.specs.Script.{made, entry_in, event_in, additio
 use crate::script::ScriptLine;
 use crate::script::command::common_event;
 use krb_keytab::NewEntry;
-use krb_text::{LineFault, LineRefusal, Words, etype_word, is_key, name_word, number_word, parse_key};
+use krb_text::{
+    LineFault, LineRefusal, Words, etype_word, is_key, name_word, number_word, parse_key,
+};
 use krb_walk::Event;
 use std::alloc::Allocator;
 use std::marker::Model;

@@ -9,7 +9,7 @@ ghost use Rattle.krb_wire.specs.Names.{have_same_name};
 
 use crate::klist::words::{refuse_columns, refuse_odd_seconds, refuse_with, refuse_with_cache};
 use krb_ccache::{Ccache, CredView, is_config};
-use krb_driver::{FileName, Matches, Mistake, spelled_seconds, times_given, typed};
+use krb_driver::{FileName, Matches, Mistake, Phrase, spelled_seconds, times_given, typed};
 use krb_files::{Files, LoadFault};
 use krb_wire::{Limits, Name, USUAL_LIMIT};
 use std::alloc::Allocator;
@@ -36,7 +36,7 @@ fn refuse_several<'a, M: Matches<'a>>(matches: &M) -> Result<(), Mistake<'a>>
     ensures { Refuses (odd_files (M.matched matches.now)) result }
 {
     if times_given(matches, "FILE") > 1 {
-        return Err(Mistake::TakesOneFile(typed(matches, "-s", "--silent")));
+        return Err(Phrase::TAKES_ONE_FILE.of(typed(matches, "-s", "--silent")));
     }
     Ok(())
 }

@@ -6,8 +6,8 @@ ghost use Rattle.krb_driver.specs.Mistakes.{Refuses, Spells};
 
 use krb_cache_text::CcColumns;
 use krb_driver::{
-    CommandName, CommandWords, FileKind, Matches, Mistake, V1_BIG, Word, refuse_twice, times_given,
-    typed, v1_order,
+    CommandName, CommandWords, FileKind, Matches, Mistake, Phrase, V1_BIG, Word, refuse_twice,
+    times_given, typed, v1_order,
 };
 use krb_keytab_text::KtColumns;
 use krb_wire::Order;
@@ -100,7 +100,7 @@ pub fn refuse_odd_seconds<'a, M: Matches<'a>>(matches: &M) -> Result<(), Mistake
 {
     refuse_twice(matches, "for", "--for", "--for")?;
     if times_given(matches, "for") > 0 && !matches.flag("silent") {
-        return Err(Mistake::OnlyWith("--for", "-s"));
+        return Err(Phrase::ONLY_WITH.of_both("--for", "-s"));
     }
     Ok(())
 }
@@ -116,7 +116,7 @@ pub fn refuse_with<'a, M: Matches<'a>>(
     ensures { Refuses (apart (M.matched matches.now) own.now name.now letter.now long.now) result }
 {
     if matches.flag(name) {
-        return Err(Mistake::DoNotGoTogether(own, typed(matches, letter, long)));
+        return Err(Phrase::DOES_NOT_GO_WITH.of_both(own, typed(matches, letter, long)));
     }
     Ok(())
 }
@@ -135,11 +135,11 @@ pub fn refuse_with_cache<'a, M: Matches<'a>>(matches: &M) -> Result<(), Mistake<
     ensures { Refuses (odd_with_cache (M.matched matches.now)) result }
 {
     if matches.flag("times") {
-        Err(Mistake::ForKeytabs(typed(matches, "-t", "--times")))
+        Err(Phrase::FOR_KEYTABS.of(typed(matches, "-t", "--times")))
     } else if matches.flag("keys") {
-        Err(Mistake::ForKeytabs(typed(matches, "-K", "--keys")))
+        Err(Phrase::FOR_KEYTABS.of(typed(matches, "-K", "--keys")))
     } else if matches.flag("v1-big") {
-        Err(Mistake::ForKeytabs("--v1-big"))
+        Err(Phrase::FOR_KEYTABS.of("--v1-big"))
     } else {
         Ok(())
     }
@@ -154,11 +154,11 @@ fn refuse_odd_option<'a, M: Matches<'a>>(matches: &M) -> Result<(), Mistake<'a>>
     }
     let keytab = typed(matches, "-k", "--keytab");
     if matches.flag("cache") {
-        Err(Mistake::DoNotGoTogether(typed(matches, "-c", "--cache"), keytab))
+        Err(Phrase::DOES_NOT_GO_WITH.of_both(typed(matches, "-c", "--cache"), keytab))
     } else if matches.flag("flags") {
-        Err(Mistake::DoNotGoTogether(typed(matches, "-f", "--flags"), keytab))
+        Err(Phrase::DOES_NOT_GO_WITH.of_both(typed(matches, "-f", "--flags"), keytab))
     } else if matches.flag("config") {
-        Err(Mistake::DoNotGoTogether(typed(matches, "-C", "--config"), keytab))
+        Err(Phrase::DOES_NOT_GO_WITH.of_both(typed(matches, "-C", "--config"), keytab))
     } else {
         Ok(())
     }

@@ -6,9 +6,9 @@ ghost use Rattle.krb_readers.specs.Ktcheck.{found, found_verdict, is_silent, lef
 
 use crate::ktcheck::words::CheckOptions;
 use krb_audit::{CheckUp, append_report, check_up};
-use krb_findings::FindingSet;
 use krb_driver::{FileName, Findings, Output, RunError, Show, Verdict, append_said, label_of};
 use krb_files::Watched;
+use krb_findings::FindingSet;
 use krb_json::{check_json, refused_json};
 use krb_keytab::Keytab;
 use krb_wire::NoMemory;

@@ -4,11 +4,11 @@ ghost use Rattle.std.specs.Prelude.{◌≡◌, map};
 ghost use Rattle.krb_readers.specs.Ktcheck.{SpellsCheck, bad_finding, check_mistake, finding_set, findings};
 ghost use Rattle.krb_driver.specs.Mistakes.{first_mistake, Reads, Spells};
 
-use krb_findings::{Finding, FindingSet};
 use krb_driver::{
-    CommandName, CommandWords, Matches, Mistake, V1_BIG, Word, WordFault, refuse_twice,
+    CommandName, CommandWords, Matches, Mistake, Phrase, V1_BIG, Word, WordFault, refuse_twice,
     spelled_names, spelled_seconds, v1_order,
 };
+use krb_findings::{Finding, FindingSet};
 use krb_wire::Order;
 use std::alloc::{Allocator, Global};
 
@@ -87,7 +87,7 @@ fn finding<'a>(word: &'a str) -> Result<FindingSet, Mistake<'a>>
 {
     match Finding::named(word) {
         Some(finding) => Ok(FindingSet::only_if(true, finding)),
-        None => Err(Mistake::NoFinding(word)),
+        None => Err(Phrase::NO_FINDING.of(word)),
     }
 }
 

@@ -5,8 +5,8 @@ ghost use Rattle.krb_driver.specs.Mistakes.{Spells};
 ghost use Rattle.krb_readers.specs.Show.{default_kind, show_mistake, show_options};
 
 use krb_driver::{
-    CommandName, CommandWords, FileKind, Matches, Mistake, V1_BIG, Word, times_given, typed,
-    v1_order,
+    CommandName, CommandWords, FileKind, Matches, Mistake, Phrase, V1_BIG, Word, times_given,
+    typed, v1_order,
 };
 use krb_wire::Order;
 
@@ -62,7 +62,7 @@ pub fn show_options<'a, M: Matches<'a>>(matches: &M) -> Result<ShowOptions, Mist
     ensures { Spells (show_mistake (M.matched matches.now)) (λ options. options ≡ show_options (M.matched matches.now)) result }
 {
     if matches.flag("keytab") && times_given(matches, "FILE") > 0 {
-        return Err(Mistake::DoNotGoTogether(typed(matches, "-k", "--keytab"), "FILE"));
+        return Err(Phrase::DOES_NOT_GO_WITH.of_both(typed(matches, "-k", "--keytab"), "FILE"));
     }
     Ok(ShowOptions {
         default: default_kind(matches),

@@ -1,9 +1,9 @@
 //! Calls of caches.
 
-use super::made::{LOW_KEY, name_of};
-use super::{SIZE, fill, in_each_heap, is};
+use super::in_each_heap;
+use super::made::{HIGH_KEY, name_of};
 use krb_ccache::{Ccache, Cred};
-use krb_walk::{Code, Refusal};
+use krb_walk::Refusal;
 use krb_wire::Limits;
 use linked_list_allocator::LocalHeap;
 use std::alloc::Allocator;
@@ -17,7 +17,7 @@ fn ticket(alloc: &LocalHeap) -> Result<Cred<&LocalHeap>, Refusal> {
         client: name_of(alloc, b"u@R")?,
         server: name_of(alloc, b"host/a@R")?,
         enctype: 17,
-        key: Vec::from_slice(alloc, LOW_KEY)?,
+        key: Vec::from_slice(alloc, HIGH_KEY)?,
         authtime: 1_700_000_000,
         starttime: 0,
         endtime: 1_700_036_000,
@@ -75,25 +75,4 @@ fn change(heap: &LocalHeap) -> Result<bool, Refusal> {
 #[test]
 fn calls_that_take_memory(rt: HostRuntime) -> Result<(), Fail> {
     in_each_heap(rt.alloc(), change)
-}
-
-#[test]
-fn calls_that_take_none(rt: HostRuntime) -> Result<(), Fail> {
-    let heap = LocalHeap::new(rt.alloc(), SIZE)?;
-    let (cache, place) = made(&heap)?;
-    let image = cache.into_image();
-    let _taken = fill(rt.alloc(), &heap)?;
-    let opened = Ccache::open(image, Limits::usual());
-    let mut cache = opened.map_err(|refused| refused.why)?;
-    cache.remove_all(&[place]);
-    let again = cache.remove_at(place);
-    is(
-        again == Err(Code::NotLive) && tickets(&cache) == 1,
-        "another ticket",
-    )?;
-    let value = cache.config(b"k", None);
-    is(
-        value == Some(b"new".as_slice()) && heap.free() == 0,
-        "another value",
-    )
 }

@@ -21,38 +21,23 @@ pub const B: &[u8] = b"\0\0\0\x29\0\x01\0\x01R\0\x01b\0\0\0\x01\x65\x53\xf1\0\x0
 /// `HOST` at 2, a hole at 53 that `B` fits, and `B` at 104.
 pub const WITH_HOLE: &[&[u8]] = &[HEAD, HOST, b"\xff\xff\xff\xd1", &[0; 47], B];
 
-/// The key of `HOST`, and that of `B`.
-pub const LOW_KEY: &[u8] = b"\0\x01\x02\x03\x04\x05\x06\x07\x08\x09\x0a\x0b\x0c\x0d\x0e\x0f";
-
-const HIGH_KEY: &[u8] = b"\x10\x11\x12\x13\x14\x15\x16\x17\x18\x19\x1a\x1b\x1c\x1d\x1e\x1f";
+/// The key of `B`.
+pub const HIGH_KEY: &[u8] = b"\x10\x11\x12\x13\x14\x15\x16\x17\x18\x19\x1a\x1b\x1c\x1d\x1e\x1f";
 
 /// Returns the name of a text that is one.
 pub fn name_of<A: Allocator + Copy>(alloc: A, text: &[u8]) -> Result<Principal<A>, Refusal> {
     parse_name(alloc, text, None).map_err(|_| Refusal::NoMemory)
 }
 
-fn entry_of<A: Allocator + Copy>(
-    alloc: A,
-    name: &[u8],
-    key: &[u8],
-) -> Result<NewEntry<A>, Refusal> {
+/// Returns the entry of `B`.
+pub fn b<A: Allocator + Copy>(alloc: A) -> Result<NewEntry<A>, Refusal> {
     Ok(NewEntry {
-        principal: name_of(alloc, name)?,
+        principal: name_of(alloc, b"b@R")?,
         timestamp: 1_700_000_000,
         kvno: 3,
         enctype: 17,
-        key: Vec::from_slice(alloc, key)?,
+        key: Vec::from_slice(alloc, HIGH_KEY)?,
     })
-}
-
-/// Returns the entry of `HOST`.
-pub fn host<A: Allocator + Copy>(alloc: A) -> Result<NewEntry<A>, Refusal> {
-    entry_of(alloc, b"host/a@R", LOW_KEY)
-}
-
-/// Returns the entry of `B`.
-pub fn b<A: Allocator + Copy>(alloc: A) -> Result<NewEntry<A>, Refusal> {
-    entry_of(alloc, b"b@R", HIGH_KEY)
 }
 
 /// Returns the keytab of an image in pieces.

@@ -1,4 +1,4 @@
-use Rattle.krb_audit.proofs.Cited.{List, [], ◌++◌, true, false, refl, ap, sym, subst, arith, ◌∙◌, AreMarks, Old as OldKvno, PlacedEntry, placed_entries, map, vec_items, rules, Marked, reported}
+use Rattle.krb_audit.proofs.Cited.{List, [], ◌++◌, true, false, None, refl, ap, sym, subst, arith, ◌∙◌, AreMarks, Old as OldKvno, PlacedEntry, placed_entries, map, vec_items, rules, Marked, reported}
 use Rattle.krb_audit.proofs.FindingsLemmas.{IsCheckedUpTo, all_before, entries_few, one_checked}
 use Rattle.krb_audit.proofs.RowLemmas.{row_count}
 use Rattle.krb_audit.proofs.findings.check_entries.Goals as goal
@@ -19,7 +19,7 @@ pub entries-init : goal.entries-init
 entries-init g c =
     let k = c.args.keytab.now.state in
     let all = placed_entries k in
-    let marks : AreMarks OldKvno 0 all all c.in_ok-are_old.are_old.items = search rules in
+    let marks : AreMarks (OldKvno None) 0 all all c.in_ok-are_old.are_old.items = search rules in
     let known = c.first-before.ensures k (map vec_items c.args.wanted.now) c.in_ok-rows.ensures marks c.in_ok-names.ensures in
     subst (λ (xs : List PlacedEntry). IsCheckedUpTo c.args.aged_by k (map vec_items c.args.wanted.now) xs c.first-before.result c.new-entries.result.items) (sym (c.into_iter-place-iterator.ensures.into_iter_gives ∙ c.entries-place-items.ensures)) (record {
       before = [];

@@ -1,4 +1,4 @@
-use Rattle.krb_audit.proofs.Cited.{false, ap, sym, subst, ◌∙◌, replicate, arith, fold, take_all, OldFor, AreYoung}
+use Rattle.krb_audit.proofs.Cited.{false, ap, sym, subst, ◌∙◌, replicate, arith, fold, take_all, Some, Old, AreYoung}
 use Rattle.krb_audit.proofs.KvnoMarkLemmas.{are_young, marked}
 use Rattle.krb_audit.proofs.young.young_for.Goals as goal
 
@@ -7,4 +7,4 @@ returns g c = λ xs are newest.
     let rows = c.args.rows.now in
     let marks = marked c.args.now c.args.seconds c.args.newest.now in
     let all = take_all c.rows.row-index rows (omega arith) in
-    subst (AreYoung (OldFor c.args.seconds) c.args.now xs) (sym (c.rows.invariant ∙ ap (fold marks (replicate c.numbered_len-len.result false)) all)) (are_young c.args.now c.args.seconds xs rows c.numbered_len-len.result c.args.newest.now are c.numbered_len-len.ensures newest)
+    subst (AreYoung (Old (Some c.args.seconds)) c.args.now xs) (sym (c.rows.invariant ∙ ap (fold marks (replicate c.numbered_len-len.result false)) all)) (are_young c.args.now c.args.seconds xs rows c.numbered_len-len.result c.args.newest.now are c.numbered_len-len.ensures newest)

@@ -1,5 +1,5 @@
-use Rattle.krb_cache_text.proofs.Cited.{◌∷◌, ℕ, drop, get_or, sym, ap, ◌∙◌, drop-cons, add-one, err_from_is_err_and, left_fails, escaped_text}
-use Rattle.krb_cache_text.proofs.escape.append_escaped.Goals as goal
+use Rattle.krb_text.proofs.Cited.{◌∷◌, ℕ, drop, get_or, sym, ap, ◌∙◌, drop-cons, add-one, err_from_is_err_and, left_fails, escaped_text}
+use Rattle.krb_text.proofs.escape.append_escaped.Goals as goal
 
 pub returns-in_err-append_escaped_byte : goal.returns-in_err-append_escaped_byte
 returns-in_err-append_escaped_byte g c =

@@ -1,4 +1,4 @@
-use Rattle.krb_audit.proofs.Cited.{◌≡◌, List, ℕ, cond, Option, Some, ap, sym, ◌∙◌, ◌∷◌, [], append_assoc, ◌&&◌, ◌||◌, not, list_any, option_map, PlacedEntry, placed_entries, Old, ends_mit, first_number, ap₂, Key, looked, same_key, clashes, first_alike, is_aged, repeats, with_if, Alike}
+use Rattle.krb_audit.proofs.Cited.{◌≡◌, List, ℕ, cond, Option, None, Some, ap, sym, ◌∙◌, ◌∷◌, [], append_assoc, ◌&&◌, ◌||◌, not, list_any, option_map, PlacedEntry, placed_entries, Old, ends_mit, first_number, ap₂, Key, looked, same_key, clashes, first_alike, is_aged, repeats, with_if, Alike}
 use Rattle.std.specs.Prelude.{Bool}
 use Rattle.std.specs.Option.{unwrap_or}
 use Rattle.krb_text.specs.Etype.{is_weak}
@@ -14,7 +14,7 @@ returns g c = λ k wanted before rest known.
     let old = c.args.self.now in
     let first = c.next_number-first.result in
     let next = c.next_number-first.ensures all rest x known.rows in
-    let marked = c.next_mark-old.ensures Old 0 all rest x known.are_old in
+    let marked = c.next_mark-old.ensures (Old None) 0 all rest x known.are_old in
     let look : Key → Option (ℕ × List ℕ) = looked old.firsts in
     let key : Key = (record { 0 = first }, c.kvno-kvno.result, c.enctype-etype.result) in
     let is : key ≡ key_in first x = λ i. (record { 0 = first }, c.kvno-kvno.ensures i, c.enctype-etype.ensures i) in
