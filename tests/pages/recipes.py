@@ -17,7 +17,7 @@ FILES = re.compile(r"`((?:crates|docs|examples|python|tests)/[^` ]+|[A-Z]+\.md)`
 SOURCES = ("*.md", "docs/*", "examples/*", "python/*/*.py", "crates/*/CALLING.md", "crates/*/src/**/*.rt",
            "crates/*/specs/*.antt", "crates/samples/proofs/*.antt", "tests/*/*.py")
 EXAMPLES = {"A command": r"(?i)ktdiff", "An option": r'--age\b|"age\b', "A column of show": r"\bSESSION\b",
-            "An encryption type": "camellia256"}
+            "A mistake in a command line": r"(?i)\bonly_with\b", "An encryption type": "camellia256"}
 
 
 def expanded(path: str) -> list[str]:
