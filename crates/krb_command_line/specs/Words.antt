@@ -1,5 +1,5 @@
 -- The words of a command line, and the options and operands of a command.
-use Rattle.std.specs.Prelude.{ℕ, ◌+◌, ◌-◌, ◌==◌, List, [], ◌∷◌, ◌++◌, codes, drop, encode_utf8, encode_utf8_all, filter, length, map, nat_eq, nat_lt, take, not, ◌&&◌, ◌||◌, Bool, true, false, if◌then◌else◌, bytes_eq, is_some, Option, None, Some, ok_or, option_and_then, option_map, unwrap_or, Result, Ok, Err, String, string_bytes}
+use Rattle.std.specs.Prelude.{ℕ, ◌+◌, ◌-◌, ◌==◌, List, [], ◌∷◌, ◌++◌, codes, drop, encode_utf8, encode_utf8_all, filter, length, map, nat_eq, nat_lt, take, not, ◌&&◌, Bool, true, false, if◌then◌else◌, bytes_eq, is_some, Option, None, Some, ok_or, option_and_then, option_map, unwrap_or, Result, Ok, Err, String, string_bytes}
 use Rattle.std.specs.List.{before_first, ends_with, find, list_any, position_or_len, starts_with}
 use Rattle.std.specs.Option.{option_flatten, option_map_or}
 use Rattle.std.specs.Result.{result_map_both, result_ok}

@@ -107,13 +107,12 @@ pub fn parsed<'a>(
     words: &'a mut Result<Vec<String>, WordFault<'static>>,
     help: &'a mut String,
 ) -> Result<Action<'a>, WordFault<'a>> {
-    let words = match words {
-        Ok(words) => words,
-        Err(fault) => return Err(*fault),
-    };
-    match parse_words(alloc, &COMMANDS.map(command_words), words, help)? {
-        Request::Help(text) => Ok(Action::Help(text)),
-        Request::Command(line, matched) => action_of(alloc, line.command, line.name, &matched),
+    match words {
+        Ok(words) => match parse_words(alloc, &COMMANDS.map(command_words), words, help)? {
+            Request::Help(text) => Ok(Action::Help(text)),
+            Request::Command(line, matched) => action_of(alloc, line.command, line.name, &matched),
+        },
+        Err(fault) => Err(*fault),
     }
 }
 
