@@ -113,7 +113,8 @@ check:
 	$(need_rt)
 	tests/unproved bin/unproved/krbfile
 	tests/run --unproved --program bin/unproved/krbfile
-	@echo "Nothing was proved: make and make test prove."
+	@echo "Nothing was proved: make and make test prove. For the change of one file:" \
+		"tests/run --unproved --program bin/unproved/krbfile --for FILE, and tests/prove --only CRATE FUNCTION."
 
 static: $(STATIC)
 
