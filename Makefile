@@ -36,6 +36,7 @@ DIST ?= .
 export SOURCE_DATE_EPOCH ?= 1767225600
 HARDENED = -Wl,-z,relro,-z,now
 PROGRAM = bin/krbfile
+WRONG = bin/wrong
 BUILT = crates/krbfile/out/krbfile
 STATIC = bin/krbfile-static
 ARCHIVE = crates/krb_c/out/libkrb_c.a
@@ -112,7 +113,8 @@ check:
 	$(need_rt)
 	tests/unproved bin/unproved/krbfile
 	tests/run --unproved --program bin/unproved/krbfile
-	@echo "Nothing was proved: make and make test prove."
+	@echo "Nothing was proved: make and make test prove. For the change of one file:" \
+		"tests/run --unproved --program bin/unproved/krbfile --for FILE, and tests/prove --only CRATE FUNCTION."
 
 static: $(STATIC)
 
@@ -127,17 +129,19 @@ samples:
 # The programs and libraries that the gate leaves are what is tested, so each crate is proved once. The gate would put
 # libraries of earlier checks back in their place, and it takes no folder that holds a link. A program that it took over
 # from an earlier run has no object file: then the static one is left out. The theorems about the files of other
-# programs are written before. The wrong bodies are tried even if a test failed.
+# programs are written before. The wrong bodies of a crate are tried as soon as the gate has proved it; what that gave
+# is shown last, even if a test failed.
 test:
+	$(need_rt)
 	rm -f $(BUILT) $(BUILT).o $(STATIC) $(LINKER_NAME) $(ARCHIVE)
 	rm -rf crates/*/out/rlib
 	tests/samples_of_corpus
-	rt ci
+	tests/wrong --beside $(WRONG) rt ci
 	touch -c crates/*/out/rlib/*.rlib $(BUILT)
 	$(MAKE) --no-print-directory all
 	-test ! -f $(BUILT).o || $(MAKE) --no-print-directory static
 	$(MAKE) --no-print-directory lib
-	tests/run; run=$$?; tests/wrong && exit $$run
+	tests/run; run=$$?; cat $(WRONG); grep -q '^[1-9][0-9]* wrong bodies refused, 0 not$$' $(WRONG) && exit $$run
 
 long-test: all
 	tests/run --long --program $(PROGRAM)

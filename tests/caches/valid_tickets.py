@@ -9,6 +9,8 @@ from makers.images import PA_TYPE, TICKET, TWO, Credential, Name, cache, config_
 from runs.harness import Case, Outcome, Report, folder_of, run, words_of
 from system.pipe_files import fed
 
+BREAKS = ("crates/krb_readers/src/klist", "crates/krb_audit/src/tickets.rt")
+
 # A time that does not come during a test; the usual ticket ended before.
 FUTURE = 2**32 - 1
 

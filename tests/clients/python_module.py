@@ -11,6 +11,8 @@ from pages.readme import no_library, surroundings
 from runs.harness import Outcome, Report, every, folder_of, run, text
 from words.phrases import LIBRARY_CODES, SHORT, code
 
+BREAKS = ("python", "crates/krb_c")
+
 # A script's name, its text, its input, and the lines that it prints.
 Script = tuple[str, str, bytes, list[str]]
 

@@ -11,6 +11,8 @@ from keytabs.removals import AES256, DAMAGED, FIVE, FOUR, NOT_FOUND, line_of
 from makers.images import B, HOST, TWO, Entry, keytab, old, record
 from runs.harness import Case, Outcome, message, printed, words_of
 
+BREAKS = ("crates/krb_editors/src/ktcopy.rt", "crates/krb_editors/src/ktdiff.rt", "crates/krb_copy")
+
 X, Y = "kvno 3 etype 17 host/a@R", "kvno 3 etype 17 b@R"
 
 # Entries that are as that of b@R, with other keys.

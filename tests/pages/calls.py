@@ -7,6 +7,8 @@ import re
 from pages.documents import paths, read
 from runs.harness import TOP, Report
 
+BREAKS = ("crates/*/CALLING.md", "crates/library_tests")
+
 # Crates whose calls are on the page of another.
 ON_PAGE_OF = {"krb_files": ["krb_disk"]}
 

@@ -6,6 +6,8 @@ import re
 from runs.commands import COMMANDS
 from runs.harness import TOP, Report, files_in, folder_of, run
 
+BREAKS = ("crates/*/specs", "crates/samples", "tests/definitions")
+
 MAKER = os.path.join(TOP, "tests", "definitions")
 LINES, COLUMNS = 200, 100
 

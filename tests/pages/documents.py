@@ -7,6 +7,10 @@ import re
 from pathlib import Path
 
 from runs.harness import TOP, Report
+from topics import breaks, of_change, parts
+
+BREAKS = ("*.md", "*/*.md", "docs/*.md", "crates/*/CALLING.md", "crates.txt", "crates/good_tickets",
+          "crates/rotate_keys")
 
 MAP = os.path.join("docs", "DESIGN.md")
 
@@ -84,9 +88,19 @@ def check_list(report: Report) -> None:
     report.check(f"the functions of {crate} without a clause", sorted(named ^ without_clause(crate)))
 
 
+def check_topics(report: Report) -> None:
+    """Checks that each topic names what it is the first to notice, and that each source and page is named."""
+    report.check("the topics without BREAKS", [topic for topic, names in breaks().items() if not names[1:]])
+    report.check("the paths of BREAKS that do not exist",
+                 sorted({name for names in breaks().values() for name in names if not parts(name)}))
+    files = paths("crates/*/src/**/*.rt", "*.md", "*/README.md", "docs/*", "crates/*/CALLING.md")
+    report.check("the sources and pages that no topic names", [path for path in files if not of_change(path)])
+
+
 def check(report: Report, program: str) -> None:
     """Reads the documents and the sources. The program is not run."""
     check_map(report)
+    check_topics(report)
     check_list(report)
     pages = paths("*.md", "*/README.md", "docs/*.md", "crates/*/CALLING.md")
     for path in pages:

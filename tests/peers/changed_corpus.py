@@ -9,6 +9,8 @@ from peers.corpus import files
 from runs.harness import Report, folder_of
 from runs.undisturbed import Undisturbed, undisturbed
 
+BREAKS = ("tests/corpus/ccache", "crates/krb_ccache", "crates/krb_editors/src/ccedit.rt")
+
 # Lines that set values in a cache, and how MIT's klist shows these.
 SETTING = b"config fast_avail krbtgt/R@R no\nconfig mine - 1\n"
 SET = ["config: fast_avail(krbtgt/R@R) = no\n", "config: mine = 1\n"]

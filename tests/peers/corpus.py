@@ -16,6 +16,8 @@ from pathlib import Path
 
 from runs.harness import TOP, Case, Outcome, Report
 
+BREAKS = ("tests/corpus", "tests/samples_of_corpus", "crates/corpus_samples")
+
 # The folder of the files and cases.
 FOLDER = os.path.join(TOP, "tests", "corpus")
 

@@ -10,6 +10,8 @@ from runs.undisturbed import IN_PLACE, Undisturbed, undisturbed
 from system.changes_at_once import names_of
 from system.saving import ADD_LONG
 
+BREAKS = ("crates/krb_disk/src/in_place", "crates/krb_disk/src/in_place.rt")
+
 # How long a run is watched that has to wait.
 MOMENT = 0.3
 

@@ -13,6 +13,8 @@ from runs.harness import Report, folder_of, run
 from runs.random_runs import Rounds
 from runs.storms import Run, rage
 
+BREAKS = ("crates/krb_disk/src/looks/locks.rt", "crates/krb_editors/src/ccremove.rt")
+
 # How many runs of each command there are, and within how many seconds they begin.
 EACH = 15
 WITHIN = 0.5

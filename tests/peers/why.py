@@ -7,6 +7,8 @@ from makers.images import B, HOST, TWO, keytab
 from peers.beside_mit import SURROUNDINGS, are_there, mit_klist
 from runs.harness import SECONDS, Report, folder_of, printed, run
 
+BREAKS = ("README.md",)
+
 
 def mit(folder: str, *words: str, typed: str = "") -> subprocess.CompletedProcess:
     """Runs a program of MIT's."""

@@ -41,7 +41,7 @@ def near(names: Iterable[str], wanted: Iterable[str]) -> list[str]:
     return [each for name in wanted for each in get_close_matches(name.rpartition("::")[2], names)]
 
 
-def check(crate: str, functions: Iterable[str], folder: str) -> int:
+def check_in(crate: str, functions: Iterable[str], folder: str) -> int:
     """Checks functions of the crate in a folder, and returns the compiler's status."""
     kept, sources = os.path.join(folder_of(crate), "out", "only"), not_made_below(crate)
     os.makedirs(kept, exist_ok=True)
@@ -58,7 +58,7 @@ def check(crate: str, functions: Iterable[str], folder: str) -> int:
 
 def check_functions(crate: str, functions: list[str]) -> int:
     """Checks functions of a crate, and returns the status. If a name fits none, those that are like it are printed."""
-    status = check(crate, functions, folder_of(crate))
+    status = check_in(crate, functions, folder_of(crate))
     if status == FITS_NOTHING:
         texts = [path.read_text("utf-8") for path in Path(folder_of(crate), "src").rglob("*.rt")]
         names = {name for text in texts for name in DECLARED.findall(text)}
@@ -103,4 +103,4 @@ def check_theorem(name: str) -> int:
         return FITS_NOTHING
     with tempfile.TemporaryDirectory(prefix="krbfile-") as folder:
         write_theorem(module, name, modules[module], folder)
-        return check(SAMPLES, ["computes"], folder)
+        return check_in(SAMPLES, ["computes"], folder)

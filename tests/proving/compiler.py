@@ -78,8 +78,9 @@ def is_whole(path: str) -> bool:
 
 
 def is_proved(crate: str) -> bool:
-    """Whether a crate and the libraries that it uses were proved."""
-    return all(map(os.path.isdir, map(library, [crate, *below(crate)])))
+    """Whether a crate and the libraries that it uses were proved; of a program, or one for C, those that it uses."""
+    has_library = not crates()[crate][0] and root_of(crate) == "src/lib.rt"
+    return all(is_whole(library(it)) for it in [crate] * has_library + [*below(crate)])
 
 
 def root_of(crate: str) -> str:

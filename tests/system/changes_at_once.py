@@ -22,6 +22,8 @@ from runs.storms import Run, rage
 from runs.undisturbed import IN_PLACE, PROGRAM
 from system.saving import tree, write
 
+BREAKS = ("crates/krb_disk",)
+
 # How many runs there are at once.
 MANY = 60
 

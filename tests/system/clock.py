@@ -15,6 +15,8 @@ from runs.harness import BAD_LINE, Case, Outcome, Report, message, over, printed
 from runs.system_calls import preloaded
 from words.phrases import CLOCK
 
+BREAKS = ("crates/krb_audit/src/young.rt", "crates/krb_text/src/time.rt", "crates/krb_driver/src/beginning.rt")
+
 # A run, and the settings of its clock.
 Row = tuple[Case, dict[str, int]]
 

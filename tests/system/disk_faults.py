@@ -16,6 +16,8 @@ from system.saving import (GROUP, SAVED, UNREAD, UNSAVED, USER, Owned, Place, at
                            write)
 from words.phrases import CAUSES
 
+BREAKS = ("crates/krb_disk/src/fault.rt", "crates/krb_disk/src/calls", "crates/krb_files/src/cause.rt")
+
 # The calls that look at a path, and that open it, whichever the system has.
 LOOK, OPEN = "?statx,?newfstatat,?stat,?lstat", "?openat,?open"
 

@@ -14,6 +14,8 @@ from system.saving import (ADD, GROUP, PLACED, SAVED, UNREAD, UNSAVED, USER, Own
                            check_over, explained, faults_over, link, tree_faults, unsaved, write)
 from words.phrases import CAUSES
 
+BREAKS = ("crates/krb_disk/src/save.rt", "crates/krb_disk/src/stage.rt", "crates/krb_disk/src/mode.rt")
+
 # Runs that change a file: the last one copies over a file of no bytes.
 ALL = (*CHANGES, *copies(("", TWO, b"", "into no bytes")))
 

@@ -17,6 +17,8 @@ from runs.undisturbed import IN_PLACE
 from system.early_ends import End, Ends
 from system.saving import reported
 
+BREAKS = ("crates/krb_files", "crates/krb_commands", "crates/krb_driver/src/reporting")
+
 ERRORS = (EINTR, EAGAIN, ENOSPC, ENOMEM, EACCES)
 
 # More bytes than any read or write moves, and few.

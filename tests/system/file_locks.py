@@ -18,6 +18,8 @@ from runs.undisturbed import IN_PLACE, Undisturbed, in_place, undisturbed
 from system.saving import (ADD, B_OLD, EQUAL, LONGER, PLACED, SAVED, check_over, edit, refused, run_over, state_of,
                            tree_faults, with_words, write)
 
+BREAKS = ("crates/krb_disk/src/looks/locks.rt", "crates/krb_disk/src/deadline.rt")
+
 # A run that gives up takes this many seconds, however busy the machine is.
 LEAST_WAIT, LONGEST_WAIT = 9, 20
 

@@ -21,6 +21,9 @@ from words.explaining import CUT_CACHE, Explained, case, failed, in_the_way, lin
 from words.phrases import (BAD_DEFAULT, BAD_HEADER, BEGINS_AS_CACHE, BEGINS_AS_NO_CACHE, BEGINS_AS_NO_KEYTAB, CAUSES,
                            ERRORS, GIVEN_DAMAGED, HELD_AS_KEYTAB, LARGE, NOT_WHOLE, SHORT, TO_A_PROGRAM, code)
 
+BREAKS = ("crates/krb_editors/src/hold", "crates/krb_editors/src/hold.rt", "crates/krb_files/src/held_name.rt",
+          "crates/krb_disk/src/held.rt")
+
 # A keytab whose entries MIT's programs do not see.
 UNSEEN = keytab(Entry((b"h",), timestamp=0, enctype=1, key=b""), B)
 

@@ -17,6 +17,8 @@ from system.saving import (ADD, SAVED, USER, Place, as_another, at, check_over, 
 from words.explaining import Explained, in_the_way_of, unchanged
 from words.phrases import CAUSES
 
+BREAKS = ("crates/krb_disk/src/new_file.rt", "crates/krb_disk/src/target.rt", "crates/krb_disk/src/stage.rt")
+
 # Another user who is not root.
 STRANGER = 1234
 

@@ -23,6 +23,8 @@ from system.saving import last_line, tree_faults
 from words.explaining import for_owner
 from words.phrases import CAUSES
 
+BREAKS = ("crates/krb_disk/src/open_file.rt", "crates/krb_disk/src/read.rt")
+
 # Names of a pipe, of a link to it, and of other things.
 PIPES, OTHERS = ("pipe", "link"), (".", "/dev/null", "/dev/full/k")
 

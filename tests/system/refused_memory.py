@@ -14,6 +14,8 @@ from runs.harness import EXPLAIN, Outcome, Report, differences, words_of
 from runs.system_calls import Counted, Preloaded, preloaded
 from system.early_ends import NO_MEMORY, Ends
 
+BREAKS = ("crates/krb_wire/src/memory.rt", "crates/wiping", "crates/krb_commands")
+
 # How many allocations of a run are refused: over larger files some, and over small ones all.
 SOME, ALL = 45, 5_000
 

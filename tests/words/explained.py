@@ -18,6 +18,8 @@ from words.explaining import case, copy, failed, link, no_keytab
 from words.phrases import (BEGINS_AS_CACHE, CAUSES, CLASH, LARGE, OTHER_FILES, SEE_HELP, SHORT, TO_REPLACE, code,
                            line_fault, unknown)
 
+BREAKS = ("crates/krb_driver",)
+
 ADD = f"{ADD_HOST}\n".encode()
 
 

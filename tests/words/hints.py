@@ -8,6 +8,8 @@ from makers.images import B, HOST, keytab
 from pages.readme import installed
 from runs.harness import EXPLAIN, Report, folder_of, printed, run
 
+BREAKS = ("crates/krb_driver/src/reporting/hints.rt", "crates/krb_audit/src/report.rt")
+
 # A keytab of the three findings that have hints, and what each of their commands prints.
 ALL = keytab(replace(HOST, enctype=23), B, B, FIVE)
 REMOVED = printed("removed 2 kvno 3 etype 23 host/a@R")

@@ -8,6 +8,8 @@ from words.command_lines import lines_of
 from words.explaining import Explained
 from words.phrases import code
 
+BREAKS = ("crates/krb_driver/src/command_line", "crates/krbfile/src/bad_line.rt", "crates/krbfile/src/nearest.rt")
+
 MESSAGE = b"krbfile: bad command line\n"
 
 # A word that may be a key, what is printed in its place, and a word that is too short for a key.
