@@ -1,9 +1,8 @@
 //! Credential caches for C.
 
-mod calls;
-mod changes;
-mod looks;
-mod opening;
+pub mod changes;
+pub mod looks;
+pub mod opening;
 
 ghost use Rattle.std.specs.Prelude.{◌≡◌};
 ghost use Rattle.krb_ccache.specs.Store.{credential_at_place};

@@ -1,9 +1,8 @@
 //! Keytabs for C.
 
-mod calls;
-mod changes;
-mod looks;
-mod opening;
+pub mod changes;
+pub mod looks;
+pub mod opening;
 
 use crate::heap::Heap;
 use crate::walked::Walked;

@@ -1,14 +1,14 @@
-//! Keytabs and credential caches for programs in C: the functions of the static library, over the calls of krb_keytab
-//! and krb_ccache. c/krbfile.h declares them.
+//! Keytabs and credential caches for programs in C, behind handles, over the calls of krb_keytab and krb_ccache. The
+//! static library krb_exports exports them.
 #![tactic(auto)]
 
-mod cache;
-mod handle;
-mod heap;
-mod held;
-mod keytab;
+pub mod cache;
+pub mod handle;
+pub mod heap;
+pub mod held;
+pub mod keytab;
 mod parts;
-mod phrase;
-mod status;
-mod text;
-mod walked;
+pub mod phrase;
+pub mod status;
+pub mod text;
+pub mod walked;
