@@ -7,7 +7,7 @@ import re
 from pages.documents import read
 from runs.harness import TOP, Report
 
-BREAKS = ("c/krbfile.h", "c/krbfile.map", "docs/krbfile.3", "crates/krb_c")
+BREAKS = ("c/krbfile.h", "c/krbfile.map", "docs/krbfile.3", "crates/krb_exports")
 
 EXPORT = re.compile(r'pub extern "C" fn (krbf_\w+)\(([^)]*)\)(?: -> (\w+))?', re.S)
 SYNOPSIS = re.compile(r"^\.Ft (\w+)\n\.Fn (krbf_\w+)(.*)$", re.M)

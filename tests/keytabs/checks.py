@@ -12,7 +12,7 @@ from makers.images import B, HOST, TWO, Entry, keytab
 from runs.harness import Case, Outcome, Report, folder_of, over, printed, run, with_mode
 
 BREAKS = ("crates/krb_readers/src/ktcheck", "crates/krb_readers/src/ktcheck.rt", "crates/krb_audit", "crates/krb_names",
-          "crates/krb_json/src/check.rt", "crates/krb_json/src/finding.rt")
+          "crates/krb_findings", "crates/krb_json/src/check.rt", "crates/krb_json/src/finding.rt")
 
 # The smallest length that MIT's reader takes for the end.
 LONG = 32_768

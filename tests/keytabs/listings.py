@@ -8,7 +8,7 @@ from makers.images import BIG, END, HOST, LITTLE, B, Entry, cache, config, hole,
 from runs.harness import Case, Outcome, Report, message, over
 from runs.undisturbed import undisturbed
 
-BREAKS = ("crates/krb_readers", "crates/krb_text", "crates/krb_json")
+BREAKS = ("crates/krb_readers", "crates/krb_text", "crates/krb_keytab_text", "crates/krb_json")
 
 # The enctypes that have names: the lengths of their keys, and the names; the first is printed.
 ETYPES = {

@@ -12,7 +12,7 @@ from runs.commands import CHANGES
 from runs.harness import TOP, Report, every, folder_of, run
 from words.phrases import FINDINGS
 
-BREAKS = ("completions", "crates/krbfile/src/command_lines.rt")
+BREAKS = ("completions", "crates/krb_command_line/src/command_lines.rt")
 
 # Each completes the last word of each line of TYPED, and prints `found` and the words on a line; zsh on a terminal.
 BASH = """source "$0"; while IFS= read -r line; do

@@ -8,7 +8,7 @@ from words.command_lines import lines_of
 from words.explaining import Explained
 from words.phrases import code
 
-BREAKS = ("crates/krb_driver/src/command_line", "crates/krbfile/src/bad_line.rt", "crates/krbfile/src/nearest.rt")
+BREAKS = ("crates/krb_driver/src/command_line", "crates/krb_command_line")
 
 MESSAGE = b"krbfile: bad command line\n"
 
