@@ -39,7 +39,7 @@ PROGRAM = bin/krbfile
 WRONG = bin/wrong
 BUILT = crates/krbfile/out/krbfile
 STATIC = bin/krbfile-static
-ARCHIVE = crates/krb_exports/out/libkrb_exports.a
+ARCHIVE = crates/krb_c/out/libkrb_c.a
 LIBRARY = lib/libkrbfile.a
 SHARED = lib/libkrbfile.so.1
 LINKER_NAME = lib/libkrbfile.so
@@ -84,7 +84,7 @@ $(STATIC): $(BUILT)
 	rm $(STATIC).linked
 
 $(ARCHIVE): $(SOURCES)
-	tests/prove krb_exports
+	tests/prove krb_c
 
 # The calls and the C library's heap as one object, which shows the calls alone.
 lib/krbfile.o: $(ARCHIVE)
@@ -126,11 +126,11 @@ cards:
 samples:
 	tests/samples samples
 
-# The programs and libraries that the gate leaves are what is tested, so each crate is proved once, but krb_exports,
-# which the gate does not build, once more. The gate would put libraries of earlier checks back in their place, and
-# it takes no folder that holds a link. A program that it took over from an earlier run has no object file: then the
-# static one is left out. The theorems about the files of other programs are written before. The wrong bodies of a
-# crate are tried as soon as the gate has proved it; what that gave is shown last, even if a test failed.
+# The programs and libraries that the gate leaves are what is tested, so each crate is proved once. The gate would put
+# libraries of earlier checks back in their place, and it takes no folder that holds a link. A program that it took over
+# from an earlier run has no object file: then the static one is left out. The theorems about the files of other
+# programs are written before. The wrong bodies of a crate are tried as soon as the gate has proved it; what that gave
+# is shown last, even if a test failed.
 test:
 	$(need_rt)
 	rm -f $(BUILT) $(BUILT).o $(STATIC) $(LINKER_NAME) $(ARCHIVE)

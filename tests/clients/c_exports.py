@@ -7,7 +7,7 @@ import re
 from pages.documents import read
 from runs.harness import TOP, Report
 
-BREAKS = ("c/krbfile.h", "c/krbfile.map", "docs/krbfile.3", "crates/krb_exports")
+BREAKS = ("c/krbfile.h", "c/krbfile.map", "docs/krbfile.3", "crates/krb_c")
 
 EXPORT = re.compile(r'pub extern "C" fn (krbf_\w+)\(([^)]*)\)(?: -> (\w+))?', re.S)
 SYNOPSIS = re.compile(r"^\.Ft (\w+)\n\.Fn (krbf_\w+)(.*)$", re.M)
@@ -44,7 +44,7 @@ def parts(text: str) -> list[str]:
 def exports() -> dict[str, Signature]:
     """Returns the exports of the sources, by name."""
     found = {}
-    for path in glob.glob(os.path.join(TOP, "crates/krb_exports/src/*.rt")):
+    for path in glob.glob(os.path.join(TOP, "crates/krb_c/src/**/*.rt"), recursive=True):
         for name, words, answer in EXPORT.findall(read(path)):
             kinds = [kind for word in parts(words) for kind in IN_C[word.split(": ", 1)[1]]]
             found[name] = {"u32": "uint32_t", "": "void"}[answer], tuple(kinds)

@@ -1,8 +1,9 @@
 //! Credential caches for C.
 
-pub mod changes;
-pub mod looks;
-pub mod opening;
+mod calls;
+mod changes;
+mod looks;
+mod opening;
 
 ghost use Rattle.std.specs.Prelude.{◌≡◌};
 ghost use Rattle.krb_ccache.specs.Store.{credential_at_place};

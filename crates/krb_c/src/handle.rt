@@ -132,7 +132,6 @@ pub type KrbfKeytab = Handle;
 pub type KrbfCcache = Handle;
 
 /// Takes the box out of a handle for a call, and puts it back.
-#[macro_export]
 macro_rules! with_held {
     ($handle:ident, $alloc:ident, $held:ident => $call:expr) => {{
         let mut $held = $handle.take($alloc);
@@ -141,6 +140,8 @@ macro_rules! with_held {
         answer
     }};
 }
+
+pub(crate) use with_held;
 
 // What it owns is in the heap, and any thread may free it.
 unsafe impl Send for Handle {}

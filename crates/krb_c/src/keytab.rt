@@ -1,8 +1,9 @@
 //! Keytabs for C.
 
-pub mod changes;
-pub mod looks;
-pub mod opening;
+mod calls;
+mod changes;
+mod looks;
+mod opening;
 
 use crate::heap::Heap;
 use crate::walked::Walked;

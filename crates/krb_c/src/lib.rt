@@ -1,14 +1,14 @@
-//! Keytabs and credential caches for programs in C, behind handles, over the calls of krb_keytab and krb_ccache. The
-//! static library krb_exports exports them.
+//! Keytabs and credential caches for programs in C: the functions of the static library, over the calls of krb_keytab
+//! and krb_ccache. c/krbfile.h declares them.
 #![tactic(auto)]
 
-pub mod cache;
-pub mod handle;
-pub mod heap;
-pub mod held;
-pub mod keytab;
+mod cache;
+mod handle;
+mod heap;
+mod held;
+mod keytab;
 mod parts;
-pub mod phrase;
-pub mod status;
-pub mod text;
-pub mod walked;
+mod phrase;
+mod status;
+mod text;
+mod walked;

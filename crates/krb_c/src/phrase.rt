@@ -2,8 +2,10 @@
 
 ghost use Rattle.std.specs.Prelude.{◌≡◌};
 ghost use Rattle.krb_wire.specs.Reading.{Gives};
-ghost use Rattle.krb_c.specs.Phrase.{phrase_of, own_phrase, code_of, name_fault_of, open_fault_of};
+ghost use Rattle.krb_c.specs.Phrase.{ShowsPhrase, phrase_of, own_phrase, code_of, name_fault_of, open_fault_of};
 
+use crate::status::{DONE, of_code};
+use crate::text::{KrbfBytes, bytes_of};
 use krb_ccache::CcOpenFault;
 use krb_walk::Code;
 use krb_wire::NameFault;
@@ -67,8 +69,8 @@ fn own_phrase(status: u32) -> Option<&'static str>
     }
 }
 
-/// Returns the phrase of a status, or `None` if it has none.
-pub fn phrase_of(status: u32) -> Option<&'static str>
+// Returns the phrase of a status, or `None` if it has none.
+fn phrase_of(status: u32) -> Option<&'static str>
     ensures { Gives (λ phrase. phrase.now) result (phrase_of status) }
 {
     if let Some(code) = code_of(status) {
@@ -81,4 +83,18 @@ pub fn phrase_of(status: u32) -> Option<&'static str>
         return Some(fault.phrase());
     }
     own_phrase(status)
+}
+
+/// Shows the phrase of a status: what it means, in words.
+#[unsafe(no_mangle)]
+pub extern "C" fn krbf_phrase(status: u32, phrase: &mut KrbfBytes) -> u32
+    ensures { ShowsPhrase (phrase_of status) result phrase.old phrase.new }
+{
+    match phrase_of(status) {
+        Some(text) => {
+            *phrase = bytes_of(text.as_bytes());
+            DONE
+        }
+        None => of_code(Code::NotFound),
+    }
 }

@@ -1,4 +1,4 @@
-//! Opening and creating caches.
+//! Opening, creating and closing caches.
 
 ghost use Rattle.std.specs.Prelude.{◌≡◌, ◌≤◌, length, Err, None, IfOk, IfErr};
 ghost use Rattle.krb_wire.specs.NameOf.{name_of};
@@ -10,7 +10,7 @@ use crate::cache::HeldCache;
 use crate::handle::KrbfCcache;
 use crate::heap::{heap, limits_of};
 use crate::held::Held;
-use crate::status::{NO_MEMORY, TOO_LARGE, of_cc_open, of_refusal};
+use crate::status::{DONE, NO_MEMORY, TOO_LARGE, of_cc_open, of_refusal};
 use crate::text::read_name;
 use krb_ccache::{CcOpenFault, Ccache, Version};
 use krb_wire::Limits;
@@ -51,7 +51,8 @@ fn look_at_front(image: &[u8], limits: Limits) -> Result<(), CcOpenFault>
 
 /// Opens the cache of a copy of an image. The limit is the greatest length of its image: 0 means 16,777,216. An image
 /// that is refused by its length or its version is refused before it is copied.
-pub fn open(alloc: Global, image: &[u8], limit: u32, cc: &mut KrbfCcache) -> u32
+#[unsafe(no_mangle)]
+pub extern "C" fn krbf_cc_open(alloc: Global, image: &[u8], limit: u32, cc: &mut KrbfCcache) -> u32
     requires { cc.old.held ≡ None }
     ensures opens { OpensImage image.now limit result cc.new }
     ensures memory { result ≡ 1 → IfErr (opened_within image.now (limit_of limit)) IsDeeper }
@@ -72,8 +73,14 @@ pub fn open(alloc: Global, image: &[u8], limit: u32, cc: &mut KrbfCcache) -> u32
 }
 
 /// Creates a cache of version 4 without credentials, with the default principal that a text names.
+#[unsafe(no_mangle)]
 #[tactic(auto, using(crate::proofs::NameLemmas::unread))]
-pub fn create(alloc: Global, principal: &[u8], limit: u32, cc: &mut KrbfCcache) -> u32
+pub extern "C" fn krbf_cc_create(
+    alloc: Global,
+    principal: &[u8],
+    limit: u32,
+    cc: &mut KrbfCcache,
+) -> u32
     requires { cc.old.held ≡ None }
     ensures { Makes (limit_of limit) (name_of principal.now None) result cc.new }
 {
@@ -88,4 +95,14 @@ pub fn create(alloc: Global, principal: &[u8], limit: u32, cc: &mut KrbfCcache) 
         Ok(cache) => cc.fill(alloc, Held::Cache(HeldCache::of(cache))),
         Err(refusal) => of_refusal(refusal),
     }
+}
+
+/// Frees a cache, and leaves its handle empty. An empty one stays so.
+#[unsafe(no_mangle)]
+pub extern "C" fn krbf_cc_close(alloc: Global, cc: &mut KrbfCcache) -> u32
+    ensures done { result ≡ 0 }
+    ensures closed { cc.new.held ≡ None }
+{
+    cc.free(alloc);
+    DONE
 }

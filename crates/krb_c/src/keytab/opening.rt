@@ -1,4 +1,4 @@
-//! Opening and creating keytabs.
+//! Opening, creating and closing keytabs.
 
 ghost use Rattle.std.specs.Prelude.{◌≡◌, ◌≤◌, ◌⊎◌, length, Some, None, Err, IsOk, IfOk, IfErr};
 ghost use Rattle.krb_keytab.specs.Store.{format_of, open_result};
@@ -10,7 +10,7 @@ use crate::handle::KrbfKeytab;
 use crate::heap::{Heap, heap, limits_of};
 use crate::held::Held;
 use crate::keytab::HeldKeytab;
-use crate::status::{NO_MEMORY, TOO_LARGE, of_kt_open};
+use crate::status::{DONE, NO_MEMORY, TOO_LARGE, of_kt_open};
 use krb_keytab::{Indexed, Keytab, KtOpenFault};
 use krb_wire::{KtFormat, Limits, NoMemory, Order};
 use std::alloc::Global;
@@ -70,7 +70,8 @@ fn fill(alloc: Global, keytab: Keytab<Heap>, kt: &mut KrbfKeytab) -> u32
 }
 
 /// Creates a keytab of version 2 without entries. The limit is the greatest length of its image: 0 means 16,777,216.
-pub fn create(alloc: Global, limit: u32, kt: &mut KrbfKeytab) -> u32
+#[unsafe(no_mangle)]
+pub extern "C" fn krbf_kt_create(alloc: Global, limit: u32, kt: &mut KrbfKeytab) -> u32
     requires { kt.old.held ≡ None }
     ensures { Makes (limit_of limit) result kt.new }
 {
@@ -85,7 +86,14 @@ pub fn create(alloc: Global, limit: u32, kt: &mut KrbfKeytab) -> u32
 
 /// Opens the keytab of a copy of an image, with such a limit. An image that is not a keytab is refused before it is
 /// copied, so that `NO_MEMORY` is returned for a keytab only.
-pub fn open(alloc: Global, image: &[u8], v1_big: u32, limit: u32, kt: &mut KrbfKeytab) -> u32
+#[unsafe(no_mangle)]
+pub extern "C" fn krbf_kt_open(
+    alloc: Global,
+    image: &[u8],
+    v1_big: u32,
+    limit: u32,
+    kt: &mut KrbfKeytab,
+) -> u32
     requires { kt.old.held ≡ None }
     ensures opens { OpensImage v1_big image.now (limit_of limit) result kt.new }
     ensures memory { result ≡ 1 → IsKeytab v1_big image.now (limit_of limit) }
@@ -104,4 +112,14 @@ pub fn open(alloc: Global, image: &[u8], v1_big: u32, limit: u32, kt: &mut KrbfK
         Ok(keytab) => fill(alloc, keytab, kt),
         Err(refused) => of_kt_open(refused.why),
     }
+}
+
+/// Frees a keytab, and leaves its handle empty. An empty one stays so.
+#[unsafe(no_mangle)]
+pub extern "C" fn krbf_kt_close(alloc: Global, kt: &mut KrbfKeytab) -> u32
+    ensures done { result ≡ 0 }
+    ensures closed { kt.new.held ≡ None }
+{
+    kt.free(alloc);
+    DONE
 }

@@ -1,5 +1,4 @@
-//! The functions that libkrbfile exports over a keytab: first those that make and free it, then those that read it and
-//! those that change it.
+//! The functions of the static library over a keytab: first those that read it, then those that change it.
 
 ghost use Rattle.std.specs.Prelude.{◌≡◌, None, IsSome, option_map, ◌⊎◌, map};
 ghost use Rattle.krb_wire.specs.NameOf.{name_of};
@@ -10,57 +9,17 @@ ghost use Rattle.krb_keytab.specs.Store.{entry_at_place, image_of, store_of, ent
 ghost use Rattle.krb_keytab.specs.Changes.{cut_result};
 ghost use Rattle.krb_keytab.specs.Rewrite.{rewrite_result};
 ghost use Rattle.krb_c.specs.Held.{keytab_of, Looks, Over};
-ghost use Rattle.krb_c.specs.KeytabOpens.{IsKeytab, Makes, OpensImage};
-ghost use Rattle.krb_c.specs.Opens.{limit_of};
 ghost use Rattle.krb_c.specs.KeytabLooks.{Shows, Finds, ShowsPart, AddsNamed, ReadsBack, entry_with};
 ghost use Rattle.krb_c.specs.Walks.{StepsOver, with_cursors};
 ghost use Rattle.krb_c.specs.Text.{AreShown, LooksAt, CopiesTextAt};
 ghost use Rattle.krb_c.specs.Status.{kind_number, Changes, Rewrites};
 
-use krb_c::handle::KrbfKeytab;
-use krb_c::keytab::changes::{Numbers, add};
-use krb_c::keytab::looks::{KrbfEntry, copy_name_at, find, look_at, show_component};
-use krb_c::keytab::opening::{create, open};
-use krb_c::status::{DONE, kind_of};
-use krb_c::text::{KrbfBytes, bytes_of};
-use krb_c::with_held;
+use crate::handle::{KrbfKeytab, with_held};
+use crate::keytab::changes::{Numbers, add};
+use crate::keytab::looks::{KrbfEntry, copy_name_at, find, look_at, show_component};
+use crate::status::{DONE, kind_of};
+use crate::text::{KrbfBytes, bytes_of};
 use std::alloc::Global;
-
-/// Creates a keytab of version 2 without entries. The limit is the greatest length of its image: 0 means 16,777,216.
-#[unsafe(no_mangle)]
-pub extern "C" fn krbf_kt_create(alloc: Global, limit: u32, kt: &mut KrbfKeytab) -> u32
-    requires { kt.old.held ≡ None }
-    ensures { Makes (limit_of limit) result kt.new }
-{
-    create(alloc, limit, kt)
-}
-
-/// Opens the keytab of a copy of an image, with such a limit. An image that is not a keytab is refused before it is
-/// copied, so that `NO_MEMORY` is returned for a keytab only.
-#[unsafe(no_mangle)]
-pub extern "C" fn krbf_kt_open(
-    alloc: Global,
-    image: &[u8],
-    v1_big: u32,
-    limit: u32,
-    kt: &mut KrbfKeytab,
-) -> u32
-    requires { kt.old.held ≡ None }
-    ensures opens { OpensImage v1_big image.now (limit_of limit) result kt.new }
-    ensures memory { result ≡ 1 → IsKeytab v1_big image.now (limit_of limit) }
-{
-    open(alloc, image, v1_big, limit, kt)
-}
-
-/// Frees a keytab, and leaves its handle empty. An empty one stays so.
-#[unsafe(no_mangle)]
-pub extern "C" fn krbf_kt_close(alloc: Global, kt: &mut KrbfKeytab) -> u32
-    ensures done { result ≡ 0 }
-    ensures closed { kt.new.held ≡ None }
-{
-    kt.free(alloc);
-    DONE
-}
 
 /// Shows the first entry at or after the cursor, and moves the cursor past it. A walk starts at 2.
 #[unsafe(no_mangle)]

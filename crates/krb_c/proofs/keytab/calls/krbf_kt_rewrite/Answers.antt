@@ -2,7 +2,7 @@ use Rattle.std.proofs.Common.{rules, ap, subst, ◌∙◌}
 use Rattle.krb_keytab.specs.Store.{image_of}
 use Rattle.krb_keytab.specs.Laws.{AreBytes}
 use Rattle.krb_keytab.proofs.Rewrites.{rewritten_keeps}
-use Rattle.krb_exports.proofs.keytab.krbf_kt_rewrite.Goals as goal
+use Rattle.krb_c.proofs.keytab.calls.krbf_kt_rewrite.Goals as goal
 
 pub returns-clause-entries : goal.returns-clause-entries
 returns-clause-entries c = λ done.

@@ -1,7 +1,6 @@
-//! The functions that libkrbfile exports over a cache: first those that make and free it, then those that read it and
-//! those that change it.
+//! The functions of the static library over a cache: first those that read it, then those that change it.
 
-ghost use Rattle.std.specs.Prelude.{◌≡◌, ◌<◌, None, IfErr, IsSome, map, option_map};
+ghost use Rattle.std.specs.Prelude.{◌≡◌, ◌<◌, None, IsSome, map, option_map};
 ghost use Rattle.krb_wire.specs.Names.{name_text};
 ghost use Rattle.krb_wire.specs.NameOf.{name_of};
 ghost use Rattle.krb_walk.specs.Store.{end_of, fault_of};
@@ -11,8 +10,6 @@ ghost use Rattle.krb_ccache.specs.Store.{credential_at_place, image_of, store_of
 ghost use Rattle.krb_ccache.specs.Changes.{cut_result};
 ghost use Rattle.krb_ccache.specs.SetConfig.{set_config_result};
 ghost use Rattle.krb_ccache.specs.Rewrite.{rewrite_result};
-ghost use Rattle.krb_c.specs.CacheOpens.{IsDeeper, Makes, OpensImage, opened_within};
-ghost use Rattle.krb_c.specs.Opens.{limit_of};
 ghost use Rattle.krb_c.specs.Held.{cache_of, Looks, Over};
 ghost use Rattle.krb_c.specs.Text.{CopiesText, CopiesTextAt, AreShown, LooksAt, ShowsBytes};
 ghost use Rattle.krb_c.specs.CacheLooks.{Finds, text_or_none, Shows};
@@ -20,49 +17,12 @@ ghost use Rattle.krb_c.specs.Walks.{StepsOver, with_cursors};
 ghost use Rattle.krb_c.specs.Status.{kind_number, Adds, Changes, Rewrites};
 ghost use Rattle.krb_c.specs.CacheStore.{Stores, new_credential_of};
 
-use krb_c::cache::changes::{KrbfNumbers, NewCredential, store};
-use krb_c::cache::looks::{KrbfTicket, config, copy_client, copy_server, find, look_at};
-use krb_c::cache::opening::{create, open};
-use krb_c::handle::KrbfCcache;
-use krb_c::status::{DONE, kind_of};
-use krb_c::text::{KrbfBytes, bytes_of, copy_name};
-use krb_c::with_held;
+use crate::cache::changes::{KrbfNumbers, NewCredential, store};
+use crate::cache::looks::{KrbfTicket, config, copy_client, copy_server, find, look_at};
+use crate::handle::{KrbfCcache, with_held};
+use crate::status::{DONE, kind_of};
+use crate::text::{KrbfBytes, bytes_of, copy_name};
 use std::alloc::Global;
-
-/// Opens the cache of a copy of an image. The limit is the greatest length of its image: 0 means 16,777,216. An image
-/// that is refused by its length or its version is refused before it is copied.
-#[unsafe(no_mangle)]
-pub extern "C" fn krbf_cc_open(alloc: Global, image: &[u8], limit: u32, cc: &mut KrbfCcache) -> u32
-    requires { cc.old.held ≡ None }
-    ensures opens { OpensImage image.now limit result cc.new }
-    ensures memory { result ≡ 1 → IfErr (opened_within image.now (limit_of limit)) IsDeeper }
-{
-    open(alloc, image, limit, cc)
-}
-
-/// Creates a cache of version 4 without credentials, with the default principal that a text names.
-#[unsafe(no_mangle)]
-pub extern "C" fn krbf_cc_create(
-    alloc: Global,
-    principal: &[u8],
-    limit: u32,
-    cc: &mut KrbfCcache,
-) -> u32
-    requires { cc.old.held ≡ None }
-    ensures { Makes (limit_of limit) (name_of principal.now None) result cc.new }
-{
-    create(alloc, principal, limit, cc)
-}
-
-/// Frees a cache, and leaves its handle empty. An empty one stays so.
-#[unsafe(no_mangle)]
-pub extern "C" fn krbf_cc_close(alloc: Global, cc: &mut KrbfCcache) -> u32
-    ensures done { result ≡ 0 }
-    ensures closed { cc.new.held ≡ None }
-{
-    cc.free(alloc);
-    DONE
-}
 
 /// Copies the default principal's text into the buffer `room`, as much as fits, and reports the length of the text.
 #[unsafe(no_mangle)]
