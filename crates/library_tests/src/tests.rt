@@ -1,11 +1,10 @@
-//! Keytabs and caches in heaps of each size and in a full one, files in memory, and holds on the disk.
+//! A cache in heaps of each size, files in memory, holds on the disk, and what README shows.
 
 mod caches;
 mod files;
 mod holds;
 mod made;
 mod readme;
-mod sessions;
 
 use krb_walk::Refusal;
 use linked_list_allocator::LocalHeap;
@@ -59,18 +58,4 @@ fn in_each_heap<F: FnMut(&LocalHeap) -> Result<bool, Refusal>>(
         }
     }
     Err(Fail::from("no heap is large enough"))
-}
-
-/// The size of a heap that is filled.
-const SIZE: usize = 4_096;
-
-/// Takes the memory that is left in a heap.
-fn fill<'a>(alloc: Global, heap: &'a LocalHeap) -> Result<Vec<Box<u8, &'a LocalHeap>>, AllocError> {
-    let mut blocks = Vec::new(alloc);
-    for _ in 0..heap.size() / BLOCK {
-        if let Ok(block) = Box::new(heap, 0u8) {
-            blocks.push(block)?;
-        }
-    }
-    Ok(blocks)
 }

@@ -1,7 +1,7 @@
 //! Records of keytabs of version 2, spelled out by hand, and their entries.
 
 use super::joined;
-use krb_keytab::{Indexed, Keytab, NewEntry};
+use krb_keytab::{Keytab, NewEntry};
 use krb_walk::{Code, Refusal};
 use krb_wire::{Limits, Order, Principal, parse_name};
 use std::alloc::Allocator;
@@ -17,9 +17,6 @@ pub const HOST: &[u8] =
 /// A record of 45 bytes: `b@R`, version 3, enctype 17.
 pub const B: &[u8] = b"\0\0\0\x29\0\x01\0\x01R\0\x01b\0\0\0\x01\x65\x53\xf1\0\x03\0\x11\0\x10\
 \x10\x11\x12\x13\x14\x15\x16\x17\x18\x19\x1a\x1b\x1c\x1d\x1e\x1f\0\0\0\x03";
-
-/// `HOST` at 2, a hole at 53 that `B` fits, and `B` at 104.
-pub const WITH_HOLE: &[&[u8]] = &[HEAD, HOST, b"\xff\xff\xff\xd1", &[0; 47], B];
 
 /// The key of `B`.
 pub const HIGH_KEY: &[u8] = b"\x10\x11\x12\x13\x14\x15\x16\x17\x18\x19\x1a\x1b\x1c\x1d\x1e\x1f";
@@ -44,10 +41,4 @@ pub fn b<A: Allocator + Copy>(alloc: A) -> Result<NewEntry<A>, Refusal> {
 pub fn keytab_of<A: Allocator + Copy>(alloc: A, pieces: &[&[u8]]) -> Result<Keytab<A>, Refusal> {
     let opened = Keytab::open(joined(alloc, pieces)?, Order::Little, Limits::usual());
     opened.map_err(|_| Refusal::Code(Code::Damaged))
-}
-
-/// Returns the keytab, with a table, of an image in pieces.
-pub fn indexed_of<A: Allocator + Copy>(alloc: A, pieces: &[&[u8]]) -> Result<Indexed<A>, Refusal> {
-    let made = Indexed::of(alloc, keytab_of(alloc, pieces)?);
-    made.map_err(|(fault, _)| Refusal::from(fault))
 }
