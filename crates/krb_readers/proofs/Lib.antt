@@ -1,3 +1,4 @@
 pub mod Cited
 pub mod Listed
 pub mod Checked
+pub mod Options
