@@ -8,7 +8,6 @@ import signal
 from dataclasses import replace
 from importlib import import_module, util
 
-from keytabs.checks import as_json
 from makers.images import FIELDS, TICKET, Name, cache, header_field, offset
 from makers.samples import SAMPLES, make
 from pages.documents import read
@@ -17,8 +16,9 @@ from runs.harness import TOP, Outcome, Report, files_in, folder_of, message, run
 
 # The files of jobs, each with a line that it prints, and another that all do.
 FOUND = b"./mixed.keytab: weak 53 kvno 3 etype 23 b@R\n./mixed.keytab: entries 2 free 0 holes 0\n"
-JOBS = {"keytabs.cron": FOUND, "keytabs.service": FOUND, "keytabs.yml": as_json(
-    "./mixed.keytab", "600", FOUND.replace(b"./mixed.keytab: ", b""), 1)}
+JOBS = {"keytabs.cron": FOUND, "keytabs.service": FOUND, "keytabs.yml":
+        b'{"file":"./mixed.keytab","mode":"600","entries":2,"free":0,"holes":0,"findings":[{"finding":"weak",'
+        b'"place":53,"kvno":3,"etype":23,"principal":"b@R"}],"fault":null,"status":1}'}
 REMOVED = b"removed 2 kvno 3 etype 17 host/a@R\n"
 
 # The scripts, also over a cache with an offset and two tickets for one service, and the files that they leave.

@@ -4,7 +4,6 @@ allowed, JSON, and what ends the run."""
 import os
 from dataclasses import replace
 
-from keytabs.checks import as_json
 from keytabs.removals import FIVE
 from makers.images import B, HOST, TWO, hole, keytab
 from names.named_files import NEITHER
@@ -91,8 +90,10 @@ CASES = [
     check_up("-q --allow weak o w all d n", labelled(all=COUNTED, d=BROKEN, n=["empty", EMPTY]),
              *words("all", "hidden", "same", "clash", "mode", "size"), *fault("d"), *words("n", "empty"), status=1),
     check_up("-q -H --allow empty --allow missing --want c@R n", []),
-    check_up("-q --json --allow weak o w all", [as_json("all", "644", text(ALL), 1).decode()[:-1]],
-             *words("all", "hidden", "same", "clash", "mode", "size"), status=1),
+    check_up("-q --json --allow weak --want b@R k w o", [
+        '{"file":"o","mode":"600","entries":2,"free":0,"holes":0,"findings":[{"finding":"old","place":2,"kvno":3,'
+        '"etype":17,"principal":"host/a@R"},{"finding":"missing","principal":"b@R"}],"fault":null,"status":1}'],
+             *words("o", "missing"), status=1),
     # What is allowed has its lines, and only other findings count for the status.
     *(check_up(" ".join(["--older 1 --want c@R all", *(f"--allow {it}" for it in FINDINGS if it != counted)]), ASKED,
                *words("all", *IN_ALL), status=int(counted not in ("", "old"))) for counted in ("", *IN_ALL)),

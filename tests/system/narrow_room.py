@@ -8,7 +8,7 @@ import resource
 import subprocess
 from collections.abc import Iterator
 
-from caches import cache_files, greatest_caches
+from caches import greatest_caches
 from keytabs import copies, greatest
 from keytabs.file_names import LIMIT, sized
 from runs.commands import COMMANDS
@@ -45,7 +45,7 @@ def is_early(case: Case, got: Outcome, after: dict[str, bytes]) -> bool:
 
 def all_cases() -> list[Case]:
     """Returns the cases of keytabs, scripts and ktutil, and those of caches."""
-    return [*greatest.reads(), *greatest.edits(), *greatest.talks(), *cache_files.sizes(), *cache_files.large(),
+    return [*greatest.reads(), *greatest.edits(), *greatest.talks(), *greatest_caches.listings(),
             *greatest_caches.reads(), *greatest_caches.edits()]
 
 

@@ -13,7 +13,6 @@ from itertools import product
 
 from caches import cache_listings
 from caches.cache_listings import HEADING, TICKET_LINE, line_of
-from keytabs.checks import as_json, unchecked
 from keytabs.listings import B_LINE, HOST_LINE, listed
 from makers.images import TICKET, TWO, cache
 from runs.commands import CHANGES, OLD, file_of, renamed
@@ -33,7 +32,8 @@ SEVERAL = {
     "klist -l link c pipe": HEADING + line_of("c", True), "show pipe link": b"",
     "ktcheck pipe k": b"k: entries 2 free 0 holes 0\n",
     "ktcheck --json k pipe":
-        as_json("k", "600", b"entries 2 free 0 holes 0\n", 0) + unchecked("pipe", "cannot read", 3),
+        b'{"file":"k","mode":"600","entries":2,"free":0,"holes":0,"findings":[],"fault":null,"status":0}\n'
+        b'{"file":"pipe","error":"cannot read","status":3}\n',
     "ktremove -p b@R pipe k": b"k: removed 53 kvno 3 etype 17 b@R\n", "ktremove -n -p host/a@R pipe link": b"",
     "ccremove -p krbtgt/R@R c link": b"c: removed 22 krbtgt/R@R\n",
 }
