@@ -13,15 +13,9 @@ PROTOTYPE = re.compile(r"^(uint32_t|void) (krbf_\w+)\(([^)]*)\);", re.S | re.M)
 
 # The C form of an export's parameter. An allocator takes no bytes.
 IN_C = {
-    "Global": [],
-    "usize": ["size_t"],
-    **{f"u{bits}": [f"uint{bits}_t"] for bits in (16, 32)},
-    "&[u8]": ["const bytes *", "size_t"],
-    "&mut [u8]": ["bytes *", "size_t"],
-    "&mut [u32]": ["uint32_t *", "size_t"],
-    "&mut u32": ["uint32_t *"],
-    "&mut usize": ["size_t *"],
-    "&KrbfNumbers": ["const krbf_numbers *"],
+    "Global": [], "usize": ["size_t"], **{f"u{bits}": [f"uint{bits}_t"] for bits in (16, 32)},
+    "&[u8]": ["const bytes *", "size_t"], "&mut [u8]": ["bytes *", "size_t"], "&mut [u32]": ["uint32_t *", "size_t"],
+    "&mut u32": ["uint32_t *"], "&mut usize": ["size_t *"], "&KrbfNumbers": ["const krbf_numbers *"],
     **{f"&mut Krbf{name}": [f"krbf_{name.lower()} *"] for name in ("Bytes", "Entry", "Ticket", "Keytab", "Ccache")},
 }
 

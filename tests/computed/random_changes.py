@@ -220,10 +220,7 @@ def copy(random: Random) -> Iterator[Undisturbed]:
 
 
 TOPICS = (
-    Topic("random scripts", keytab_script, 60),
-    Topic("random scripts over caches", cache_script, 70),
-    Topic("random inputs of ktutil", ktutil_input, 80),
-    Topic("random removals", removal, 50),
-    Topic("random removals of tickets", ticket_removal, 70),
-    Topic("random copies", copy, 60),
+    Topic("random scripts", keytab_script, 60), Topic("random scripts over caches", cache_script, 70),
+    Topic("random inputs of ktutil", ktutil_input, 80), Topic("random removals", removal, 50),
+    Topic("random removals of tickets", ticket_removal, 70), Topic("random copies", copy, 60),
 )

@@ -129,11 +129,7 @@ def question(random: Random) -> Iterator[Undisturbed]:
 
 
 TOPICS = (
-    Topic("random keytabs", keytab_listing, 100),
-    Topic("random caches", cache_listing, 60),
-    Topic("random overviews", overview, 40),
-    Topic("random look-ups", look_up, 80),
-    Topic("random views", view, 40),
-    Topic("random checks", checked, 80),
-    Topic("random questions for tickets", question, 40),
+    Topic("random keytabs", keytab_listing, 100), Topic("random caches", cache_listing, 60),
+    Topic("random overviews", overview, 40), Topic("random look-ups", look_up, 80), Topic("random views", view, 40),
+    Topic("random checks", checked, 80), Topic("random questions for tickets", question, 40),
 )

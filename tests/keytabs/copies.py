@@ -13,10 +13,8 @@ from runs.harness import Case, Outcome, message, printed, words_of
 
 X, Y = "kvno 3 etype 17 host/a@R", "kvno 3 etype 17 b@R"
 
-# Entries that are as that of b@R, with other keys.
+# Entries that are as that of b@R, with other keys, and a name whose count of components version 1 cannot hold.
 OTHER, THIRD = replace(B, key=bytes(16)), replace(B, key=b"\xff" * 16)
-
-# A name that version 1 cannot hold: its count of components would have 17 bits.
 LONG = Entry((b"",) * 65_535)
 
 
@@ -32,10 +30,8 @@ def copy(name: str, options: str, source: bytes | None, target: bytes | None, wa
                 files if after is None else {**files, "t": after})
 
 
-# What is left of the greatest keytab beside a record of b@R.
+# What is left of the greatest keytab beside a record of b@R. Files that are no sound keytabs, each with its message.
 ROOM = LIMIT - 2 - 45 - 4
-
-# Files that are no sound keytabs, and the message about each.
 UNSOUND = {b"xy": "not a keytab (2)", TWO[:-1]: "refused 1"}
 
 

@@ -15,10 +15,8 @@ from dataclasses import dataclass, replace
 BIG = "big"
 LITTLE = "little"
 
-# The length that ends the file.
+# The length that ends the file, and the bytes that are special in the text of a name.
 END = bytes(4)
-
-# The bytes that are special in the text of a name.
 SPECIAL = {47: b"\\/", 64: b"\\@", 92: b"\\\\", 10: b"\\n", 9: b"\\t", 8: b"\\b", 0: b"\\0"}
 
 
@@ -103,11 +101,9 @@ def old(*parts: Entry | int | bytes, order: str = LITTLE) -> bytes:
 # The keytab of most cases: 98 bytes, with an entry at 2 and one at 53.
 TWO = keytab(HOST, B)
 
-# The realm and the first component of the server of a configuration entry.
+# The realm and the first component of the server of a configuration entry, and the times that mark one as removed.
 CONFIG_REALM = b"X-CACHECONF:"
 CONFIG_FIRST = b"krb5_ccache_conf_data"
-
-# The two times that mark a credential as removed.
 REMOVED = {"authtime": 2**32 - 1, "endtime": 0}
 
 # The letters of a ticket's flags, in the order in which they are printed.

@@ -12,10 +12,8 @@ from makers.random_keytabs import random_bytes
 from makers.tickets import random_ticket
 from peers import corpus
 
-# Caches of other programs.
+# Caches of other programs. Few keys and principals, so that many values replace others.
 SAMPLES = corpus.images("ccache")
-
-# Few keys and principals, so that many values replace others.
 KEYS = [b"k", b"l", b"pa_type", b"\\x00", b"\x00", b"-"]
 PRINCIPALS = [b"-", b"-", b"krbtgt/R@R", b"a@R", b"\\a@R", b"\xff@"]
 

@@ -7,10 +7,8 @@ from makers.images import BIG, END, LITTLE, Entry, hole, keytab, record
 from makers.mutations import damaged, mutated
 from peers import corpus
 
-# Keytabs of other programs.
+# Keytabs of other programs, and lengths that run past the end, end the file, or are cut off.
 SAMPLES = corpus.images("keytab")
-
-# Lengths that run past the end, end the file, or are cut off.
 LENGTHS = [END, b"\0", b"\0\0\0\1", b"\x7f\xff\xff\xff", b"\x80\0\0\0", b"\xff\xff\xff\xff"]
 
 

@@ -7,8 +7,8 @@ from dataclasses import replace
 from keytabs.removals import FIVE
 from makers.images import B, HOST, TWO, hole, keytab
 from names.named_files import NEITHER
-from runs.harness import Line, shown, text, words_of
-from words.explaining import FAILED, FULL, Explained, Output
+from runs.harness import Line, text
+from words.explaining import FAILED, FULL, Explained, Output, over_files
 from words.phrases import BEGINS_AS_NO_KEYTAB, CAUSES, FAULTS, FINDINGS, HINTS, NOT_READ
 
 # Keytabs, for their owner alone, but `all`, which all users may read and has each finding but `empty`.
@@ -41,11 +41,9 @@ def set_modes(folder: str) -> None:
         os.chmod(os.path.join(folder, name), 0o644 if name == "all" else 0o600)
 
 
-def check_up(line: str | Line, out: list[str], *output: tuple[str, str], status: int = 0, **more) -> Explained:
+def check_up(line: str | Line, out: list[str], *output: tuple[str, str], **more) -> Explained:
     """Returns a run of ktcheck over some of the files, its output and its messages."""
-    words = ("ktcheck", *words_of(line))
-    return Explained(shown(words), words, output, FILES, status=status, out=text(out), setting=set_modes, after=FILES,
-                     **more)
+    return over_files("ktcheck", line, FILES, text(out), *output, setting=set_modes, **more)
 
 
 def labelled(**those: list[str]) -> list[str]:

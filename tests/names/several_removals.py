@@ -1,8 +1,6 @@
 """`ktremove` and `ccremove` over several files: each line after the name of its file, what is said of others, and what
 where one is missing, or nothing is asked for."""
 
-import os
-
 from collections.abc import Iterable
 from dataclasses import replace
 
@@ -11,8 +9,8 @@ from keytabs.removals import FIVE
 from makers.images import B, HOST, OFFSET, PA_TYPE, TWO, VERSION_3, cache, keytab
 from names.named_files import NEITHER
 from names.several_keytabs import MISSING, NO_KEYTAB, OTHER, UNREAD
-from runs.harness import Line, shown, text, words_of
-from words.explaining import FAILED, FULL, Explained, in_the_way
+from runs.harness import Line, text
+from words.explaining import FAILED, FULL, Explained, in_the_way, link, over_files
 from words.phrases import CAUSES, TO_NAME, code
 
 # Keytabs: `o` alone has an old entry. Caches: `c` has an expired ticket and a service's valid one, the others one each.
@@ -37,18 +35,12 @@ UNSAVED = ("k: cannot write", CAUSES["in the way"].replace("NAME", "k"))
 NAMED, OTHER_NAMED = ("host/a@R: no such file", TO_NAME), ("KCM:u@R: no such file", OTHER[1])
 
 
-def link_to_nothing(folder: str) -> None:
-    """Makes a link that leads to nothing."""
-    os.symlink("no", os.path.join(folder, "l"))
-
-
-def remove(line: str | Line, out: list[str], *output: tuple[str, str], status: int = 0,
-           left: dict[str, bytes] | Iterable[str] = (), **more) -> Explained:
+def remove(line: str | Line, out: list[str], *output: tuple[str, str], left: dict[str, bytes] | Iterable[str] = (),
+           **more) -> Explained:
     """Returns a run over some of the files, its lines and messages, and the files that it changes: those of GONE of
     these names, or others."""
-    words = words_of(line)
     changed = left if isinstance(left, dict) else {name: GONE[name] for name in left}
-    return Explained(shown(words), words, output, FILES, status=status, out=text(out), after=FILES | changed, **more)
+    return over_files("", line, FILES, text(out), *output, after=FILES | changed, **more)
 
 
 CASES = [
@@ -70,7 +62,7 @@ CASES = [
     remove("ktremove -k old o k/a@R", [], ("k/a@R: no such file", TO_NAME), status=1),
     remove(("ktremove", "-pb@R", "no", "k", "KCM:u@R", ".", "", "d", "KCM:k"), [], MISSING, (*OTHER_NAMED, TO_NAME),
            (": no such file", ""), OTHER, status=1),
-    replace(remove("ktremove --in-place -p b@R k l", [], ("l: no such file", ""), status=1, setting=link_to_nothing),
+    replace(remove("ktremove --in-place -p b@R k l", [], ("l: no such file", ""), status=1, setting=link("no")),
             after=None),
     remove("ktremove -p b@R no k j", [], MISSING, status=1, options=FULL),
     # It is said last that nothing is asked for anywhere, unless no file could be asked.

@@ -14,16 +14,12 @@ from runs.harness import SECONDS, Report, run
 from theorems import mit_listings
 from theorems.mit_listings import ENTRY, credential_lines, entry_line
 
-# The century of a time, which MIT's programs leave out.
+# The century of a time, which MIT's programs leave out, and the dashes below the heading of a keytab's listing.
 CENTURY = re.compile(r"\b\d\d(?=\d\d-\d\d-\d\dT)")
-
-# The dashes below the heading of a keytab's listing.
 DASHES = re.compile(r"^----[- ]*\n", re.MULTILINE)
 
-# Where a credential begins.
+# Where a credential begins, and a ticket's own enctype, below its first line.
 CREDENTIAL = re.compile(r"^(?! )(?=.)", re.MULTILINE)
-
-# A ticket's own enctype, below its first line.
 TICKET_TYPE = re.compile(r"Etype \(skey, tkt\): [^,]*, ([^\t]*?) *(?:\t|$)")
 
 # The prompt of MIT's ktutil, which it prints into a pipe too.

@@ -70,11 +70,9 @@ SAME = [
 NAMES = ((b"a",), (b"host", b"a"), (b"b",))
 VERSIONS = (1, 2, 126, 127, 128, 129, 239, 240, 241, 242, 254, 255, 256, 257)
 
+# Entries around another. Of the version 1 files, MIT's programs read those of the machine's own byte order.
 FIRST, LAST = Entry((b"first",)), Entry((b"last",))
-
-# Of the version 1 files, MIT's programs read those of the machine's own byte order.
 KINDS = ((2, BIG, ()), (1, sys.byteorder, ("--v1-big",) if sys.byteorder == BIG else ()))
-
 USER, SERVICE = (b"user@" + REALM).decode(), (b"svc/h@" + REALM).decode()
 
 

@@ -13,13 +13,10 @@ from runs.harness import Report, folder_of, run
 from runs.random_runs import Rounds
 from runs.storms import Run, rage
 
-# How many runs of each command there are, and within how many seconds they begin.
-EACH = 15
-WITHIN = 0.5
-
-# Services whose tickets are removed, and those whose tickets are added.
-GOING = tuple(f"svc/r{number}" for number in range(EACH))
-COMING = tuple(f"svc/s{number}" for number in range(EACH))
+# How many runs of each command there are, and within how many seconds they begin. Services whose tickets are removed,
+# and those whose tickets are added.
+EACH, WITHIN = 15, 0.5
+GOING, COMING = (tuple(f"svc/{letter}{number}" for number in range(EACH)) for letter in "rs")
 
 
 def runs_of(program: str) -> list[Run]:

@@ -13,10 +13,8 @@ from runs.harness import Outcome, Report, folder_of, run
 from runs.system_calls import Preloaded, preloaded
 from runs.undisturbed import undisturbed
 
-# The end of the usual ticket, and another.
+# The end of the usual ticket, and another. The servers of the random caches, two of ticket-granting tickets.
 END, LATER = TICKET.endtime, TICKET.endtime + 1_000
-
-# The servers of the random caches. Two are a ticket-granting ticket of some realm.
 SERVERS = (Name((b"krbtgt", b"R")), Name((b"krbtgt", b"S")), Name((b"krbtgt", b"R"), b"S"), Name((b"host", b"a")),
            Name((CONFIG_FIRST, b"k"), CONFIG_REALM), Name((CONFIG_FIRST, b"k", b"p"), CONFIG_REALM))
 

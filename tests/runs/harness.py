@@ -14,17 +14,12 @@ from contextlib import contextmanager
 from dataclasses import dataclass, field, replace
 from pathlib import Path
 
-# The option by which messages are explained.
+# The repository, and the option by which messages are explained.
+TOP = os.path.dirname(os.path.dirname(os.path.dirname(os.path.abspath(__file__))))
 EXPLAIN = "--explain"
 
-# The repository.
-TOP = os.path.dirname(os.path.dirname(os.path.dirname(os.path.abspath(__file__))))
-
-# Longer than any run takes.
-SECONDS = 60
-
-# With more input bytes than this, an unproved program takes longer: it checks each access to memory.
-LARGE = 1_000_000
+# Longer than any run takes. With more input bytes an unproved program takes longer: it checks each access to memory.
+SECONDS, LARGE = 60, 1_000_000
 
 
 @dataclass(frozen=True)
@@ -248,26 +243,8 @@ def over(name: str, line: str | Line, image: bytes | None, wanted: Outcome | lis
                 files_after or files, given if isinstance(given, bytes) else text(given))
 
 
-@dataclass(frozen=True)
-class Help:
-    """A line that prints help, on the output, and words that it has."""
-
-    line: str
-    wanted_words: tuple[bytes, ...]
-
-    def check(self, report: Report, program: str) -> None:
-        """Runs it. Help ends with a newline."""
-        with folder_of({}) as folder:
-            got = run(program, self.line.split(), folder)
-        found = differences(Outcome(0, got.out), got)
-        found += [f"no word of {word.decode()}" for word in self.wanted_words if word not in got.out]
-        if not got.out.endswith(b"\n"):
-            found.append("the last line does not end")
-        report.check(f"help: {shown(self.line)}", found)
-
-
 # A row is checked as a case is. One of large files is a function, which makes it when it is run.
-Row = Case | Help | Callable[[], Case]
+Row = Case | Callable[[], Case]
 
 
 def check_rows(report: Report, program: str, rows: Iterable[Row]) -> None:

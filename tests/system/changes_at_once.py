@@ -28,11 +28,9 @@ MANY = 60
 # Parts of a listing as JSON, each with the member that begins with a name.
 NAMED = {"entries": "principal", "tickets": "server", "config": "key"}
 
-# The names by which the runs call the file, and the contents of the folder at the end.
+# The names by which the runs call the file, what is in the folder at the end, and a program that adds by `hold`.
 PATHS = ("k", "./k", "link")
 LEFT = {"k", "link"}
-
-# Another program that adds entries by `hold`, which a keytab has.
 ADDS = ("sh", os.path.join(TOP, "examples", "edit-keytab.sh"))
 
 

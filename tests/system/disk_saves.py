@@ -14,10 +14,8 @@ from system.saving import (ADD, GROUP, PLACED, SAVED, UNREAD, UNSAVED, USER, Own
                            check_over, explained, faults_over, link, tree_faults, unsaved, write)
 from words.phrases import CAUSES
 
-# Runs that change a file: the last one copies over a file of no bytes.
+# Runs that change a file, the last one of no bytes, and modes of files that are replaced by their owner.
 ALL = (*CHANGES, *copies(("", TWO, b"", "into no bytes")))
-
-# Modes of files that are replaced by their owner.
 MODES = (0o400, 0o600, 0o640, 0o664, 0o604, 0o6755)
 
 
@@ -126,11 +124,8 @@ def check_hard_links(report: Report, program: str) -> None:
 def check_removed(report: Report, program: str) -> None:
     """Checks that an open file that has lost its name is not saved, and that one with another name is."""
     cases = [
-        ("rm d", {}, UNSAVED),
-        ("rm d; echo >'d (deleted)'", {"d (deleted)": b"\n"}, UNSAVED),
-        ("rm d; echo >d", {"d": b"\n"}, UNSAVED),
-        (":", {"d": NEW}, SAVED),
-        ("mv d e", {"e": NEW}, SAVED),
+        ("rm d", {}, UNSAVED), ("rm d; echo >'d (deleted)'", {"d (deleted)": b"\n"}, UNSAVED),
+        ("rm d; echo >d", {"d": b"\n"}, UNSAVED), (":", {"d": NEW}, SAVED), ("mv d e", {"e": NEW}, SAVED),
         ("mv d 'd (deleted)'", {"d (deleted)": NEW}, SAVED),
     ]
     for name in ("/dev/fd/7", "/proc/self/fd/7"):

@@ -17,12 +17,9 @@ from system.failing_system_calls import killed, traced_run
 from system.saving import CUT_OFF, EQUAL, LONGER, MIXED, SHORTER, check_over, explained, images, message_of, unsaved
 from words.phrases import AFTERMATHS, CAUSES
 
-# The place from which a call writes, or cuts.
+# The place from which a call writes, or cuts. The calls that change a file, whose order is proved, and their errors.
 PLACE = re.compile(r"(?:pwrite64\(\d+, .*, \d+|ftruncate\(\d+), (\d+)\) ")
-
-# The calls that change a file, whose order is proved.
 CHANGES = ("pwrite64", "ftruncate", "fsync")
-
 ERRORS = ("EIO", "ENOSPC", "EDQUOT")
 
 

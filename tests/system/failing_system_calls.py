@@ -22,10 +22,8 @@ from words.phrases import CAUSES
 
 ERRORS = ("EIO", "ENOSPC", "EACCES", "EPERM", "EINTR", "ENOMEM")
 
-# The calls that are repeated if they were interrupted. Reads and writes are not.
+# The calls that are repeated if they were interrupted, as reads and writes are not; and what an earlier save left.
 REPEATED = ("open", "openat", "flock", "fchmod", "fsync", "pwrite64", "ftruncate")
-
-# What an earlier save left in its new file.
 REMAINS = b"remains"
 
 # The calls without which a run does the same: those about the system's own files, the folder and what was replaced, the

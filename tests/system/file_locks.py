@@ -18,14 +18,9 @@ from runs.undisturbed import IN_PLACE, Undisturbed, in_place, undisturbed
 from system.saving import (ADD, B_OLD, EQUAL, LONGER, PLACED, SAVED, check_over, edit, refused, run_over, state_of,
                            tree_faults, with_words, write)
 
-# A run that gives up takes this many seconds, however busy the machine is.
-LEAST_WAIT, LONGEST_WAIT = 9, 20
-
-# What needs no hold ends within this many seconds.
-AT_ONCE = 3
-
-# Runs that wait at the same time.
-RUNS = 8
+# A run that gives up takes this many seconds, however busy the machine is; one that needs no hold has ended within the
+# third. And how many runs wait at the same time.
+LEAST_WAIT, LONGEST_WAIT, AT_ONCE, RUNS = 9, 20, 3, 8
 
 # Runs that change a file, that have nothing to save, and that take no lock, in both ways if there are two.
 BOTH_WAYS, LEAVING, LOCKING_NOTHING = (both_ways(*runs) for runs in (CHANGES, LEAVES, READS))
@@ -36,10 +31,8 @@ OPEN_READ, OPEN_WRITE, PART = "a lock of an open file to read", "a lock of an op
 LOCKS: dict[str, Callable[[object], None]] = {
     FLOCK: lambda file: fcntl.flock(file, fcntl.LOCK_EX),
     "a shared flock": lambda file: fcntl.flock(file, fcntl.LOCK_SH),
-    TO_READ: lambda file: fcntl.lockf(file, fcntl.LOCK_SH),
-    TO_WRITE: lambda file: fcntl.lockf(file, fcntl.LOCK_EX),
-    OPEN_READ: lambda file: ofd_lock(file, fcntl.F_RDLCK),
-    OPEN_WRITE: lambda file: ofd_lock(file, fcntl.F_WRLCK),
+    TO_READ: lambda file: fcntl.lockf(file, fcntl.LOCK_SH), TO_WRITE: lambda file: fcntl.lockf(file, fcntl.LOCK_EX),
+    OPEN_READ: lambda file: ofd_lock(file, fcntl.F_RDLCK), OPEN_WRITE: lambda file: ofd_lock(file, fcntl.F_WRLCK),
     PART: lambda file: fcntl.lockf(file, fcntl.LOCK_EX, 1, 9),
 }
 

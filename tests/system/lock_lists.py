@@ -6,9 +6,8 @@ Each file has the number 0 on the device 0:0. That of its mount is 0:38, if that
 import os
 from itertools import product
 
-from makers.images import TWO
 from runs.commands import OLD, SCRIPT, Run
-from runs.harness import EXPLAIN, Outcome, Report, differences, folder_of
+from runs.harness import EXPLAIN, Report, differences, folder_of
 from runs.system_calls import Counted, Preloaded, preloaded
 from runs.undisturbed import in_place, undisturbed
 from system.saving import ADD, EQUAL, UNSAVED, explained
@@ -42,16 +41,13 @@ LOCK_LINES = {
     (True, True, False): (lock("00:26:131"), lock("00:00:131")),
 }
 
-# A list without an end.
-ENDLESS = None
-
 # How many milliseconds pass before a wait ends, by the cause reported then, and how many more at most: where time
 # passes by sleeps alone, which is also the most that is slept for a lock that is there once, and by looks at the clock.
 WAITS = {"in use": 10_000, "in the way": 1_000}
 MOMENT, MORE = 100, 2_000
 
-# How often the list of locks is read in each look.
-READINGS = 5
+# A list without an end, and how often the list of locks is read in each look.
+ENDLESS, READINGS = None, 5
 
 # Saves, how often each looks for locks, and those that it waits for. In place one that makes the file longer looks
 # once more.
@@ -126,17 +122,7 @@ def check_two_waits(report: Report, under: Preloaded) -> None:
     report.check("two long waits", faults + faults_of_save(got, False))
 
 
-def check_two_files(report: Report, under: Preloaded) -> None:
-    """Checks that of two files each is waited for as if it were alone."""
-    one = undisturbed("ktremove -p b@R k j", k=TWO, j=TWO)
-    got, most = seen(under, {"locks": LOCK}, one=one), 2 * (WAITS["in use"] + MOMENT)
-    faults = differences(Outcome(3, err=b"krbfile: k: cannot write\nkrbfile: j: cannot write\n"), got.outcome)
-    faults += [] if got.files == one.files else ["other files"]
-    faults += [] if 2 * WAITS["in use"] <= got.passed <= most else [f"it took {got.passed} ms"]
-    report.check("waits for two files", faults)
-
-
 def check(report: Report, program: str) -> None:
     if under := preloaded(report, program, "lists of locks"):
-        for each in (check_readings, check_lines, check_ends, check_two_waits, check_two_files):
+        for each in (check_readings, check_lines, check_ends, check_two_waits):
             each(report, under)

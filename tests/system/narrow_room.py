@@ -23,10 +23,8 @@ SPACE = 64 * 1024 * 1024
 # How many of the greatest files a run checks, and the memory for it, which is less than that of the files.
 MANY, ROOM = 40, 256 * 1024 * 1024
 
-# The last line of a hold without memory.
+# The last line of a hold without memory, and the commands that may print, or save, a part of what they do.
 HOLD_SPENT = last_line("ENOMEM", 4)
-
-# The commands that may print, or save, a part of what they do.
 PARTLY = ("ktutil", *(name for name, command in COMMANDS.items() if command.prints_early))
 
 
@@ -41,12 +39,6 @@ def is_early(case: Case, got: Outcome, after: dict[str, bytes]) -> bool:
     is_front = case.wanted.out.startswith(out) and case.wanted.err.startswith(output)
     has_done_nothing = not out and after == case.files
     return files_are_whole and is_front and (has_done_nothing or case.words[0] in PARTLY or "--json" in case.words)
-
-
-def all_cases() -> list[Case]:
-    """Returns the cases of keytabs, scripts and ktutil, and those of caches."""
-    return [*greatest.reads(), *greatest.edits(), *greatest.talks(), *greatest_caches.listings(),
-            *greatest_caches.reads(), *greatest_caches.edits()]
 
 
 def faults_in(program: str, case: Case, kind: int, most: int) -> list[str]:
@@ -73,7 +65,8 @@ def check(report: Report, program: str) -> None:
     for case, most in (*((each, ROOM) for each in of_many()), (greatest.lines(), 12 * LIMIT),
                        (copies.of_long_name(), SPACE)):
         report.check(case.name, faults_of(case, *run_case(program, case, preexec_fn=limit(resource.RLIMIT_AS, most))))
-    those = all_cases()
+    those = [*greatest.reads(), *greatest.edits(), *greatest.talks(), *greatest_caches.listings(),
+             *greatest_caches.reads(), *greatest_caches.edits()]
     for case in those:
         faults = faults_in(program, case, resource.RLIMIT_STACK, STACK)
         report.check(f"{case.name}, on a stack of 256 KB", faults)

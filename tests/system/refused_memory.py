@@ -14,25 +14,19 @@ from runs.harness import EXPLAIN, Outcome, Report, differences, words_of
 from runs.system_calls import Counted, Preloaded, preloaded
 from system.early_ends import NO_MEMORY, Ends
 
-# How many allocations of a run are refused: over larger files some, and over small ones all.
+# How many allocations of a run are refused: over larger files some, and over small ones all. The settings that refuse
+# one, and those that refuse all from it on.
 SOME, ALL = 45, 5_000
-
-# The settings that refuse one allocation, and those that refuse all from it on.
 WAYS = {"once": {}, "from it on": {"REFUSE_LASTS": 1}}
 
-# A check that explains what it finds, with hints.
+# A check that explains what it finds, with hints, and the cache of a user whose environment names none.
 EXPLAINED = at_now((EXPLAIN, "ktcheck", "a b", "r", "no"), **{"a b": keytab(HOST, HOST), "r": rotated_keytab(4)})
-
-# The cache of a user whose environment names none.
 OWN = f"/tmp/krb5cc_{os.getuid()}"
 
 # Lines that leave out the file, with the environment, and the file that they are for.
 DEFAULTS = (
-    ("klist", {"KRB5CCNAME": "FILE:c"}, "c"),
-    ("klist -s", {"KRB5CCNAME": "c"}, "c"),
-    ("klist -k", {"KRB5_KTNAME": "k"}, "k"),
-    ("ktcheck -q", {"KRB5_KTNAME": "KCM:k"}, "KCM:k"),
-    ("klist", {}, OWN),
+    ("klist", {"KRB5CCNAME": "FILE:c"}, "c"), ("klist -s", {"KRB5CCNAME": "c"}, "c"),
+    ("klist -k", {"KRB5_KTNAME": "k"}, "k"), ("ktcheck -q", {"KRB5_KTNAME": "KCM:k"}, "KCM:k"), ("klist", {}, OWN),
     ("klist -s", {}, OWN),
 )
 

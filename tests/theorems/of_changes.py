@@ -62,10 +62,8 @@ def changes() -> Module:
 
 FOUND = re.compile(r"found kvno (\d+) etype (\d+) time (\d+) keylen (\d+) first (\w\w)")
 
-# MIT's error numbers.
+# MIT's error numbers. A look-up that MIT's library answers otherwise: it takes version 300 for 44, of the same 8 bits.
 MIT_CODES = {"-1765328203": "NotFound", "-1765328154": "KvnoNotFound"}
-
-# A look-up to which MIT's library answers otherwise: it takes version 300 for 44, which has the same low 8 bits.
 WRAPPED = "find-java-new-300-18-user@PEER.TEST"
 
 FACTS = """-- the version, encryption type and time of an entry, the length of its key, and the first byte of that

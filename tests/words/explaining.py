@@ -66,6 +66,14 @@ def case(name: str, line: str | Line, image: bytes | None, *output: tuple[str, s
     return Explained(name, words_of(line), output, {} if image is None else {file: image}, **more)
 
 
+def over_files(command: str, line: str | Line, files: dict[str, bytes], out: bytes, *output: tuple[str, str],
+               **more) -> Explained:
+    """Returns a run of a command over some of those files, its output and its messages. It leaves the files, and ends
+    with status 0, unless `more` has others."""
+    words = (*command.split(), *words_of(line))
+    return Explained(shown(words), words, output, files, out=out, **{"status": 0, "after": files, **more})
+
+
 def unchanged(line: str | Line, *output: tuple[str, str], files: dict[str, bytes] | None = None, stdin: bytes = b"",
               status: int = 1, out: bytes = b"", **more) -> Explained:
     """Returns a run that leaves its files as they are."""

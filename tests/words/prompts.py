@@ -18,8 +18,7 @@ FAULT = f"krbfile: line 1: fault 2\nkrbfile: line 1: {NO_PASSWORDS}\n"
 
 # Words, what is typed, and what is on the terminal then, which does not show what is typed.
 TYPED = (
-    ("ktutil", "q\n", COMMAND),
-    ("ktutil", f"\nl\n{END}", COMMAND * 3 + "\n"),
+    ("ktutil", "q\n", COMMAND), ("ktutil", f"\nl\n{END}", COMMAND * 3 + "\n"),
     ("ktutil", f"{ADD}{KEY}\nexit\n", COMMAND + KEY_PROMPT + COMMAND),
     ("ktutil", f"{ADD}{END}{END}", COMMAND + KEY_PROMPT + "\n"),
     ("ktutil", f"{FROM_PASSWORD}quit\nq\n", COMMAND + FAULT + PASSWORD + COMMAND),
