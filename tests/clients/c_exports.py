@@ -79,6 +79,5 @@ def check(report: Report, _program: str) -> None:
     wrong = sorted(name for name in declared.keys() | shown() if declared.get(name) != shown().get(name))
     report.check("the synopsis of krbfile(3)", wrong)
     for name in sorted(declared.keys() | there.keys()):
-        is_same = declared.get(name) == there.get(name)
-        faults = [] if is_same else [f"{declared.get(name)}, not {there.get(name)}"]
-        report.check(f"krbfile.h: {name}", faults)
+        got, due = declared.get(name), there.get(name)
+        report.check(f"krbfile.h: {name}", [] if got == due else [f"{got}, not {due}"])

@@ -51,8 +51,7 @@ def check_symbols(report: Report, _program: str) -> None:
     """Checks that both libraries export the calls of the header only, and that the shared one has its name."""
     wanted = set(prototypes())
     for path, words in ((LIBRARY, ()), (SHARED, ("-D",))):
-        found = symbols(path, *words)
-        report.check(f"symbols of {os.path.basename(path)}", sorted(wanted ^ found))
+        report.check(f"symbols of {os.path.basename(path)}", sorted(wanted ^ symbols(path, *words)))
     dynamic = subprocess.run(["readelf", "-d", SHARED], check=True, capture_output=True, text=True)
     faults = [] if "soname: [libkrbfile.so.1]" in dynamic.stdout else ["it has no such soname"]
     faults += ["it has text relocations"] if "TEXTREL" in dynamic.stdout else []
@@ -89,8 +88,7 @@ def check_example(report: Report, program: str) -> None:
         report.compare("the example of krbfile(3)", Outcome(0, files_in(folder)["k"]), got)
         hole = (-(1 << 24)).to_bytes(4, "big", signed=True) + bytes(1 << 24)
         for what, image in (("damaged", mixed + b"\x7f"), ("large", TWO + hole)):
-            got = run(built, (), folder, image)
-            report.compare(f"the example of krbfile(3), {what}", Outcome(1), got)
+            report.compare(f"the example of krbfile(3), {what}", Outcome(1), run(built, (), folder, image))
 
 
 def check_edit(report: Report, program: str) -> None:

@@ -105,8 +105,7 @@ def check_debian(report: Report, program: str) -> None:
         os.makedirs(os.path.join(root, "var/lib/dpkg/updates"))
         Path(root, "var/lib/dpkg/status").touch()
         names = sorted(name.partition("_")[0] for name in os.listdir(one))
-        dpkg = ("dpkg", f"--root={root}", "--force-depends", "--log=/dev/null")
-        first, *words = (*UNSHARE, *dpkg)
+        first, *words = (*UNSHARE, "dpkg", f"--root={root}", "--force-depends", "--log=/dev/null")
         got = run(first, (*words, "-i", *(os.path.join(one, name) for name in os.listdir(one))), root)
         report.check("they are installed", [f"{got}"] * (got.status != 0))
         report.compare("their program", Outcome(1, b"empty\nentries 0 free 0 holes 0\n"), run(

@@ -161,8 +161,7 @@ class Credential:
         """Returns the credential's bytes."""
         parts = [self.client.spelled(), self.server.spelled(), number(self.enctype, 2)]
         if version == 3:
-            second = self.enctype if self.second_enctype is None else self.second_enctype
-            parts.append(number(second, 2))
+            parts.append(number(self.enctype if self.second_enctype is None else self.second_enctype, 2))
         times = (self.authtime, self.starttime, self.endtime, self.renew_till)
         parts += [counted32(self.key), *(number(time, 4) for time in times)]
         parts += [number(self.is_skey, 1), number(self.flags, 4), typed_list(self.addresses), typed_list(self.authdata)]
@@ -180,8 +179,7 @@ def counted32(data: bytes) -> bytes:
 
 def typed_list(those: tuple[Typed, ...]) -> bytes:
     """Returns a 32-bit count, and each item as its 16-bit type and its data."""
-    spelled = (number(kind, 2) + counted32(data) for kind, data in those)
-    return number(len(those), 4) + b"".join(spelled)
+    return number(len(those), 4) + b"".join(number(kind, 2) + counted32(data) for kind, data in those)
 
 
 def config(key: bytes, value: bytes, principal: bytes | None = None, client: Name = U) -> Credential:
@@ -198,8 +196,7 @@ def header_field(tag: int, value: bytes) -> bytes:
 
 def offset(seconds: int, micros: int) -> bytes:
     """Returns the header's field with the KDC's time offset."""
-    parts = (value.to_bytes(4, "big", signed=True) for value in (seconds, micros))
-    return header_field(1, b"".join(parts))
+    return header_field(1, b"".join(value.to_bytes(4, "big", signed=True) for value in (seconds, micros)))
 
 
 def cache(*cells: Credential | bytes, default: Name = U, fields: bytes = b"", version: int = 4) -> bytes:

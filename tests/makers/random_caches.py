@@ -30,15 +30,13 @@ def random_name(random: Random, may_be_config: bool = True) -> Name:
     if may_be_config and random.random() < 0.4:
         realm = random.choice([CONFIG_REALM] * 8 + [CONFIG_REALM[:-1], b"X-RMED-CONF:"])
         first = random.choice([CONFIG_FIRST] * 8 + [CONFIG_FIRST + b"x"])
-        more = random.choice([1, 1, 2, 2, 2, 0, 3])
-        parts = [first, *(random.randbytes(random.randrange(5)) for _ in range(more))]
+        parts = [first, *(random.randbytes(random.randrange(5)) for _ in range(random.choice([1, 1, 2, 2, 2, 0, 3])))]
     return Name(tuple(parts), realm, random_number(random, 32))
 
 
 def random_list(random: Random) -> tuple[tuple[int, bytes], ...]:
     """Returns addresses, or elements of authorization data; mostly none."""
-    count = random.choice([0, 0, 0, 1, 2, 5])
-    return tuple((random.randrange(2**16), random_bytes(random, 9)) for _ in range(count))
+    return tuple((random.randrange(2**16), random_bytes(random, 9)) for _ in range(random.choice([0, 0, 0, 1, 2, 5])))
 
 
 def random_times(random: Random) -> dict[str, int]:

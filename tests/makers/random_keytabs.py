@@ -14,8 +14,7 @@ LENGTHS = [END, b"\0", b"\0\0\0\1", b"\x7f\xff\xff\xff", b"\x80\0\0\0", b"\xff\x
 
 def random_bytes(random: Random, most: int) -> bytes:
     """Returns bytes, many of which are quoted in names."""
-    alphabet = b"/@\\\n\t\b\0abcxyz\xff\xc3\xa9 "
-    return bytes(random.choices(alphabet, k=random.randrange(most + 1)))
+    return bytes(random.choices(b"/@\\\n\t\b\0abcxyz\xff\xc3\xa9 ", k=random.randrange(most + 1)))
 
 
 def random_part(random: Random, version: int, order: str, is_sound: bool) -> bytes:
@@ -39,8 +38,7 @@ def random_image(random: Random) -> bytes:
     """Returns a keytab of up to five parts, sometimes of no known version, damaged a third of the time."""
     version = random.choice([1, 1, 2, 2, 2, 3])
     order = random.choice([BIG, LITTLE]) if version == 1 else BIG
-    parts = (random_part(random, version, order, False) for _ in range(random.randrange(6)))
-    image = keytab(*parts, version=version)
+    image = keytab(*(random_part(random, version, order, False) for _ in range(random.randrange(6))), version=version)
     return damaged(random, image, image) if random.random() < 0.35 else image
 
 

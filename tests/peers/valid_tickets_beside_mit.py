@@ -71,8 +71,7 @@ def check_same(report: Report, under: Preloaded) -> None:
     for name, image in (*files("ccache"), *made, *cut):
         if image not in (image for image, _, _ in DIFFERENT.values()):
             report.check(f"MIT's klist -s and ours: {name}", faults_of(under, image)[:1])
-    image = cache(TICKET)
-    report.check("MIT's klist -s and ours with --for", faults_of(under, image, 86_400))
+    report.check("MIT's klist -s and ours with --for", faults_of(under, cache(TICKET), 86_400))
 
 
 def faults_of_random(under: Preloaded, random: Random) -> list[str]:

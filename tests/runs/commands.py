@@ -138,8 +138,7 @@ def mixed_keytab(count: int) -> bytes:
     parts = []
     for number in range(count):
         name = (b"x" * (number % 30), b"%d" % number)
-        entry = Entry(name, timestamp=number, version32=number, version8=number % 256)
-        parts.append(record(entry.spelled()))
+        parts.append(record(Entry(name, timestamp=number, version32=number, version8=number % 256).spelled()))
         if number % 5 == 0:
             parts.append(hole(bytes(20 + number % 60)))
     return keytab(*parts)

@@ -59,8 +59,7 @@ def check_others_files(report: Report, program: str) -> None:
         theirs = Owned(mode, USER, GROUP)
         for case in ALL:
             check_owned(report, "a user's file saved by root", program, theirs, theirs, case)
-        inside = as_user((GROUP,))
-        check_owned(report, "a user's file in one of its groups", program, theirs, theirs, **inside)
+        check_owned(report, "a user's file in one of its groups", program, theirs, theirs, **as_user((GROUP,)))
     for what, before, after, groups, modes in LOST:
         for old, new in modes:
             check_owned(report, f"{what} lost", program, Owned(old, *before), Owned(new, *after), **as_user(groups))

@@ -62,8 +62,7 @@ def check_lost(report: Report, program: str, case: Undisturbed, call: Call, back
         got, files, _ = run_failing(program, one, *both_fail(call, back))
         faults = differences(explained(unsaved(case), *words), got)
         faults += [] if files.keys() == case.files.keys() else [f"{[*files]} are there"]
-        is_there = files[file_of(case)].startswith(images(case)[0])
-        faults += [] if damage or is_there else ["an old byte is lost"]
+        faults += [] if damage or files[file_of(case)].startswith(images(case)[0]) else ["an old byte is lost"]
         report.check(f"{call} fails, then {back}: {shown(one.words)}: {case.name}", faults)
 
 

@@ -89,8 +89,7 @@ def check_readings(report: Report, under: Preloaded) -> None:
             for nth in range(1, looks * READINGS + 2):
                 faults = faults_of_save(seen(under, {str(nth): lock}, one=case), nth <= looks * READINGS, case)
                 report.check(f"a lock to {lock.split()[3].decode()} in reading {nth}: {case.name}", faults)
-    got = seen(under, {str(2 * READINGS): ENDLESS})
-    report.check("a list without an end, once", faults_of_save(got, True))
+    report.check("a list without an end, once", faults_of_save(seen(under, {str(2 * READINGS): ENDLESS}), True))
 
 
 def check_lines(report: Report, under: Preloaded) -> None:
@@ -100,8 +99,7 @@ def check_lines(report: Report, under: Preloaded) -> None:
     """
     for waits, lines in LOCK_LINES.items():
         for line, (lists, is_waited) in product(lines, zip(({}, {"mountinfo": b""}, {"fdinfo": b""}), waits)):
-            got = seen(under, {"1": line, **lists})
-            report.check(f"{line}, without {[*lists]}", faults_of_save(got, is_waited))
+            report.check(f"{line}, without {[*lists]}", faults_of_save(seen(under, {"1": line, **lists}), is_waited))
 
 
 def check_ends(report: Report, under: Preloaded) -> None:

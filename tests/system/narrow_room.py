@@ -47,8 +47,7 @@ def faults_in(program: str, case: Case, kind: int, most: int) -> list[str]:
         got, after = run_case(program, case, preexec_fn=limit(kind, most))
     except subprocess.TimeoutExpired:
         return [f"no end in {SECONDS} seconds"]
-    may_be_early = kind == resource.RLIMIT_AS
-    return [] if may_be_early and is_early(case, got, after) else faults_of(case, got, after)
+    return [] if kind == resource.RLIMIT_AS and is_early(case, got, after) else faults_of(case, got, after)
 
 
 def of_many() -> Iterator[Case]:
@@ -68,8 +67,6 @@ def check(report: Report, program: str) -> None:
     those = [*greatest.reads(), *greatest.edits(), *greatest.talks(), *greatest_caches.listings(),
              *greatest_caches.reads(), *greatest_caches.edits()]
     for case in those:
-        faults = faults_in(program, case, resource.RLIMIT_STACK, STACK)
-        report.check(f"{case.name}, on a stack of 256 KB", faults)
+        report.check(f"{case.name}, on a stack of 256 KB", faults_in(program, case, resource.RLIMIT_STACK, STACK))
     for case in (*those, *copies.of_many()):
-        faults = faults_in(program, case, resource.RLIMIT_AS, SPACE)
-        report.check(f"{case.name}, in 64 MB of memory", faults)
+        report.check(f"{case.name}, in 64 MB of memory", faults_in(program, case, resource.RLIMIT_AS, SPACE))

@@ -64,8 +64,7 @@ def check_run(report: Report, under: Preloaded, ends: Ends, most: int = ALL, **e
     for way, settings in WAYS.items():
         faults = []
         for nth in spread(whole.requests, most):
-            got = under.run(ends.run, CLOCK=NOW, REFUSE=nth, **settings, **env)
-            faults += faults_of(ends, nth, got, may_print)
+            faults += faults_of(ends, nth, under.run(ends.run, CLOCK=NOW, REFUSE=nth, **settings, **env), may_print)
         report.check(f"memory refused {way}: {ends.run.name}", faults[:3])
 
 
