@@ -52,13 +52,10 @@ static krbf_ticket ticket_of(void) {
     return ticket;
 }
 
-static void find(void) {
+static void look_up(void) {
     krbf_ticket ticket;
-    CHECK(krbf_cc_find(&cc, GIVEN_TEXT(value_of("server")), &ticket) == KRBF_DONE);
-}
-
-static void config(void) {
     krbf_bytes value;
+    CHECK(krbf_cc_find(&cc, GIVEN_TEXT(value_of("server")), &ticket) == KRBF_DONE);
     CHECK(krbf_cc_config(&cc, GIVEN_TEXT(value_of("key")), GIVEN_TEXT(value_of("client")), &value) == KRBF_DONE);
     CHECK(is_text(value, "2"));
 }
@@ -81,7 +78,7 @@ static void set_again(void) {
     CHECK(is_text(value_of("client"), "b@R"));
 }
 
-static void (*const CALLS[])(void) = {find_and_add, find, config, store, set_config, set_again};
+static void (*const CALLS[])(void) = {find_and_add, look_up, store, set_config, set_again};
 
 /* Keeps the images, and closes both. */
 static size_t keep(uint8_t *to) {

@@ -1,12 +1,10 @@
 """The files of the examples in README and the manual page."""
 
-from contextlib import contextmanager
 from dataclasses import replace
 from pathlib import Path
 
 from makers.images import B, HOST, PA_TYPE, TICKET, TWO, Credential, Entry, Name, cache, keytab, old
 from makers.tickets import encrypted, integer, ticket
-from runs.harness import folder_of
 
 REALM = b"EXAMPLE.ORG"
 ALICE = Name((b"alice",), REALM)
@@ -50,11 +48,3 @@ def make(folder: str) -> None:
         path = Path(folder, name)
         path.write_bytes(data)
         path.chmod(0o600)
-
-
-@contextmanager
-def folder_of_samples():
-    """Yields a folder with the files."""
-    with folder_of({}) as folder:
-        make(folder)
-        yield folder

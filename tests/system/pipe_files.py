@@ -17,7 +17,7 @@ from keytabs.listings import B_LINE, HOST_LINE, listed
 from makers.images import TICKET, TWO, cache
 from runs.commands import CHANGES, OLD, file_of, renamed
 from runs.harness import EXPLAIN, Outcome, Report, differences, every, folder_of, run
-from runs.undisturbed import IN_PLACE, Undisturbed
+from runs.undisturbed import IN_PLACE
 from system.saving import last_line, tree_faults
 from words.explaining import for_owner
 from words.phrases import CAUSES
@@ -91,29 +91,24 @@ KINDS: dict[str, Callable[[str], AbstractContextManager[IsUsed]]] = {
 }
 
 
-def check_name(report: Report, program: str, case: Undisturbed, name: str) -> None:
-    """Checks a run over that name, in both ways."""
-    place, one = "line 2: " if case.words[0] == "ktutil" else "", renamed(case, name)
-    others = {each: data for each, data in case.files.items() if each != file_of(case)}
-    with folder_of(others) as folder:
-        os.symlink("pipe", os.path.join(folder, "link"))
-        with fed(os.path.join(folder, "pipe")) as is_used:
-            found = [run(program, (EXPLAIN, *words), folder, one.stdin)
-                     for words in (one.words, (one.words[0], IN_PLACE, *one.words[1:]))]
-            faults = ["it was opened"] * is_used()
-        faults += differences(*found) + ([] if found[0].status else [f"{found[0]}"])
-        if name in PIPES:
-            output = f"krbfile: {name}: cannot read\nkrbfile: {place}{CAUSES['no plain file']}\n"
-            line = last_line("EINVAL") if case.words[0] == "hold" else b""
-            faults += differences(Outcome(3, line, output.encode()), found[0])
-        faults += tree_faults({"pipe": "p", "link": "pipe", **others}, folder)
-    report.check(f"no plain file is changed: {case.name}, {name}", faults)
-
-
 def check_changes(report: Report, program: str) -> None:
-    """Checks each run over each of these."""
+    """Checks each run over each of these, in both ways."""
     for case, name in product(CHANGES, (*PIPES, *OTHERS)):
-        check_name(report, program, case, name)
+        place, one = "line 2: " if case.words[0] == "ktutil" else "", renamed(case, name)
+        others = {each: data for each, data in case.files.items() if each != file_of(case)}
+        with folder_of(others) as folder:
+            os.symlink("pipe", os.path.join(folder, "link"))
+            with fed(os.path.join(folder, "pipe")) as is_used:
+                found = [run(program, (EXPLAIN, *words), folder, one.stdin)
+                         for words in (one.words, (one.words[0], IN_PLACE, *one.words[1:]))]
+                faults = ["it was opened"] * is_used()
+            faults += differences(*found) + ([] if found[0].status else [f"{found[0]}"])
+            if name in PIPES:
+                output = f"krbfile: {name}: cannot read\nkrbfile: {place}{CAUSES['no plain file']}\n"
+                line = last_line("EINVAL") if case.words[0] == "hold" else b""
+                faults += differences(Outcome(3, line, output.encode()), found[0])
+            faults += tree_faults({"pipe": "p", "link": "pipe", **others}, folder)
+        report.check(f"no plain file is changed: {case.name}, {name}", faults)
 
 
 def check_several(report: Report, program: str) -> None:

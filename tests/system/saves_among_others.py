@@ -100,12 +100,6 @@ def check_changes(report: Report, program: str) -> None:
         check_change(report, program, "syncing", of, IN_PLACE)
 
 
-def check_while(report: Report, program: str, case: Case, call: str, change: Place, *places: Place) -> None:
-    """Checks a case that is halted after a system call while a change is made."""
-    one = replace(case, name=f"{case.name}, behind the {call} of {' '.join(case.words)}")
-    check_over(report, program, one, *places, make=lambda *run: halted(*run, HALTS[call], change))
-
-
 def added(name: str, wanted: Outcome, files: dict[str, bytes], after: dict[str, object], *options: str) -> Case:
     """Returns a run that adds an entry, and what is in its folder then."""
     return Case(name, ("ktedit", *options, "k"), wanted, files, after, SCRIPT)
@@ -146,9 +140,11 @@ MOVED: list[tuple[Case, str, Place, *tuple[Place, ...]]] = [
 
 
 def check_moved(report: Report, program: str) -> None:
-    """Checks each of those runs."""
-    for row in MOVED:
-        check_while(report, program, *row)
+    """Checks each of those runs, which is halted after a system call while a change is made."""
+    for case, call, change, *places in MOVED:
+        one = replace(case, name=f"{case.name}, behind the {call} of {' '.join(case.words)}")
+        check_over(report, program, one, *places,
+                   make=lambda *run, call=call, change=change: halted(*run, HALTS[call], change))
 
 
 check = every(check_changes, check_moved, of="files that are changed meanwhile", needs=("strace",))

@@ -6,7 +6,7 @@ import re
 from functools import cache, partial
 
 from keytabs.listings import BY_NAME
-from makers.samples import folder_of_samples
+from makers.samples import make
 from pages.readme import installed
 from runs.commands import CHANGES
 from runs.harness import TOP, Report, every, folder_of, run
@@ -75,7 +75,8 @@ def check_ends(report: Report, program: str) -> None:
         statuses, _, example = END.search(helped(program, command)).groups()
         listed = "".join(line.split()[0] for line in statuses.splitlines())
         report.check(f"the statuses of krbfile {command} --help", [] if listed == STATUSES else [f"it lists {listed}"])
-        with folder_of_samples() as folder, installed(program) as env:
+        with folder_of({}) as folder, installed(program) as env:
+            make(folder)
             got = run("sh", ("-c", example), folder, env=env)
         is_right = f"krbfile {command} " in f"{example} " and (got.status, got.err) == (0, b"")
         report.check(f"the example of krbfile {command} --help", [] if is_right else [f"{example} ends with {got}"])
