@@ -9,9 +9,8 @@ from makers.images import PA_TYPE, TICKET, TWO, Credential, Name, cache, config_
 from runs.harness import Case, Outcome, Report, folder_of, run, words_of
 from system.pipe_files import fed
 
-# A time that does not come during a test; the usual ticket ended before.
+# A time that does not come during a test; the usual ticket ended before. And how runs end.
 FUTURE = 2**32 - 1
-
 VALID, NONE, UNREAD = Outcome(0), Outcome(1), Outcome(3)
 
 # Ticket-granting tickets of the default principal's realm, R, one of them over, and a ticket for host/a@R.

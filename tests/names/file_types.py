@@ -15,10 +15,9 @@ from runs.harness import Report, check_rows
 from words.explaining import FINDS_NONE, Explained, copy, no_keytab, unchanged
 from words.phrases import BEGINS_AS_NO_KEYTAB, LEAVE_OUT, NAMED, NOT_READ, code, unknown
 
-# Words that every command is tried with, and its variable; the listings are tried with all.
+# Words that every command is tried with, and its variable; the listings are tried with all. And what no run looks at,
+# but for the variable of its kind where the file is left out.
 SOME = ("FILE:FILE:k", "WRFILE:k", "./FILE:k", "C:k", 'ключ "\\:k', "KCM:k", "DIR::k", "DIR:k", "FILE:", "")
-
-# No run looks at these, but for the variable of its kind where the file is left out.
 IGNORED = {"KRB5_CLIENT_KTNAME": b"\xff", **{kind.variable: b"\xff" for kind in Kind}}
 
 

@@ -7,10 +7,8 @@ import re
 from pages.documents import paths, read
 from runs.harness import TOP, Report
 
-# Crates whose calls are on the page of another.
+# Crates whose calls are on the page of another; and an item that may contain functions, or a function up to its body.
 ON_PAGE_OF = {"krb_files": ["krb_disk"]}
-
-# An item that may contain functions, or a function up to its body.
 ITEM = re.compile(r"^(?:pub )?(?:unsafe )?(?:impl(?:<(?:[^<>]|<[^<>]*>)*>)?|(trait)) (\w+)(.*)|"
                   r"^( *)(pub )?(?:const )?fn (\w+)((?s:.*?)(?:;|\s *\{\}?))$", re.MULTILINE)
 

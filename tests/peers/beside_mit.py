@@ -22,16 +22,13 @@ DASHES = re.compile(r"^----[- ]*\n", re.MULTILINE)
 CREDENTIAL = re.compile(r"^(?! )(?=.)", re.MULTILINE)
 TICKET_TYPE = re.compile(r"Etype \(skey, tkt\): [^,]*, ([^\t]*?) *(?:\t|$)")
 
-# The prompt of MIT's ktutil, which it prints into a pipe too.
+# The prompt of MIT's ktutil, which it prints into a pipe too, and how many random cases there are of a kind.
 PROMPT = b"ktutil:  "
-
-# How many random cases there are of a kind.
 SEEDS = 60
 
-# Where they are: those of the KDC may be outside a plain user's path.
+# Where MIT's programs are: those of the KDC may be outside a plain user's path. And their environment, since they need
+# no configuration except in a realm.
 PATHS = os.pathsep.join([os.environ.get("PATH", ""), "/usr/sbin", "/usr/local/sbin"])
-
-# The environment of MIT's programs, which need no configuration except in a realm.
 SURROUNDINGS = {name: value for name, value in os.environ.items() if not name.startswith("KRB5")}
 SURROUNDINGS |= {"KRB5_CONFIG": os.devnull, "PATH": PATHS, "LC_ALL": "C", "TZ": "UTC"}
 

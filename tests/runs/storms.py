@@ -10,10 +10,9 @@ from random import Random
 from runs.harness import SECONDS
 from words.phrases import AFTERMATHS
 
-# A run that is refused has waited for another for this many seconds, or failed for another reason.
+# A run that is refused has waited for another for this many seconds, or failed for another reason. One that saved, and
+# lost the change of another program, reports this; its status is 1.
 LEAST_WAIT = 9
-
-# What a run reports that saved, and lost the change of another program; its status is 1.
 LOST = AFTERMATHS["lost change"].encode()
 
 # A run that reads no input starts when its shell has read a line.

@@ -20,10 +20,9 @@ from system.saving import last_line
 STACK = 256 * 1024
 SPACE = 64 * 1024 * 1024
 
-# How many of the greatest files a run checks, and the memory for it, which is less than that of the files.
+# How many of the greatest files a run checks, and the memory for it, which is less than that of the files. The last
+# line of a hold without memory, and the commands that may print, or save, a part of what they do.
 MANY, ROOM = 40, 256 * 1024 * 1024
-
-# The last line of a hold without memory, and the commands that may print, or save, a part of what they do.
 HOLD_SPENT = last_line("ENOMEM", 4)
 PARTLY = ("ktutil", *(name for name, command in COMMANDS.items() if command.prints_early))
 

@@ -19,10 +19,8 @@ from words.phrases import AFTERMATHS, CAUSES, ERRORS
 B_OLD, B_NEW, B_SAVED = keytab(B), keytab(B, HOST), Outcome(0, b"placed 47\n")
 UNSAVED, UNREAD = message(3, "k: cannot write"), message(3, "k: cannot read")
 
-# Lines of ktutil that add an entry to its list.
+# Lines of ktutil that add an entry, a user who is not root, a group that user may be in, and an entry that is longer.
 LINES = text([ADDENT, KEY])
-
-# A user who is not root, a group that user may be in, and an entry that is longer than those of the keytab.
 USER, GROUP = 65_534, 54_321
 ADD_LONG = b"add 3 17 1700000000 000102030405060708090a0b0c0d0e0f a/long/name@R\n"
 

@@ -9,10 +9,8 @@ from runs.harness import Line, Outcome, Report, differences, files_in, folder_of
 from runs.terminal import WAYS
 from words.phrases import CAUSES, code
 
-# A damaged cache.
+# A damaged cache; and messages, each with its explanation or an empty text.
 CUT_CACHE = USUAL + b"\0"
-
-# Messages, each with its explanation or an empty text.
 Output = tuple[tuple[str, str], ...]
 
 # The options of a run whose output takes nothing, and what is said of that.
