@@ -13,9 +13,8 @@ from keytabs.edits import FAULTS
 from keytabs.ktutil_lines import FAULTS as KTUTIL_FAULTS
 from keytabs.ktutil_lines import NO_KEYS
 from makers.images import BIG, LITTLE, TWO, hole, keytab, name_text
-from makers.mutations import damaged
 from makers.random_caches import KEYS, PRINCIPALS, filled_cache, random_credential, random_value, with_damage
-from makers.random_keytabs import Choices, random_bytes, random_keytab
+from makers.random_keytabs import Choices, damaged, random_bytes, random_keytab
 from runs.undisturbed import Undisturbed, undisturbed
 
 # Few names, versions, types and keys, so that many entries agree; MIT's programs do not see those with empty parts.

@@ -6,10 +6,11 @@ entry. Numbers are big-endian in version 2, and in the byte order of the writer 
 
 A cache is the byte 5, a version, in version 4 a header, the default principal, and then credentials
 up to the end of the file: nothing counts or frames them. All numbers are big-endian. A header is a
-16-bit length and fields, each a 16-bit tag, a 16-bit length and a value. The cache of most cases is last.
+16-bit length and fields, each a 16-bit tag, a 16-bit length and a value. Tickets in DER (RFC 4120 5.3) are last.
 """
 from __future__ import annotations
 
+from collections.abc import Callable
 from dataclasses import dataclass, replace
 
 BIG = "big"
@@ -223,3 +224,37 @@ def config_ticket(*after: bytes, first: bytes = CONFIG_FIRST, realm: bytes = CON
                   name_type: int = 1, **changed) -> Credential:
     """Returns the ticket with the server of a configuration entry: a first component, and those after it."""
     return replace(TICKET, server=Name((first, *after), realm, name_type), **changed)
+
+
+def element(tag: int, content: bytes, is_longer: bool = False) -> bytes:
+    """Returns an element, with its length in its shortest form, or in the next that is longer."""
+    size = len(content)
+    if size < 128 and not is_longer:
+        return bytes([tag, size]) + content
+    digits = size.to_bytes((size.bit_length() + 7) // 8 + (is_longer and size > 127), "big")
+    return bytes([tag, 128 + len(digits)]) + digits + content
+
+
+def integer(number: int) -> bytes:
+    """Returns the content of an INTEGER."""
+    return number.to_bytes((number if number >= 0 else ~number).bit_length() // 8 + 1, "big", signed=True)
+
+
+def encrypted(etype: bytes, kvno: bytes | None = None, cipher: bytes = b"cipher") -> bytes:
+    """Returns the fields of an EncryptedData. The first are INTEGERs with these contents."""
+    numbers = (element(0xA0 + at, element(2, it)) for at, it in enumerate((etype, kvno)) if it is not None)
+    return b"".join((*numbers, element(0xA2, element(4, cipher))))
+
+
+# The first fields of a ticket: its version, its realm and its service.
+TICKET_VERSION = bytes.fromhex("a003020105")
+TICKET_FIELDS = TICKET_VERSION + bytes.fromhex("a1031b0152 a2163014 a003020102 a10d300b 1b066b7262746774 1b0152")
+
+
+def ticket(data: bytes, fields: bytes = TICKET_FIELDS, at: int = -1,
+           odd: Callable[[int, bytes], bytes] = element) -> bytes:
+    """Returns a ticket of those fields. Of the four elements around those of its EncryptedData that number `at` from
+    within is made by `odd`."""
+    for level, (tag, front) in enumerate(((0x30, b""), (0xA3, b""), (0x30, fields), (0x61, b""))):
+        data = (odd if level == at else element)(tag, front + data)
+    return data

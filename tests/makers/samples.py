@@ -3,8 +3,8 @@
 from dataclasses import replace
 from pathlib import Path
 
-from makers.images import B, HOST, PA_TYPE, TICKET, TWO, Credential, Entry, Name, cache, keytab, old
-from makers.tickets import encrypted, integer, ticket
+from makers.images import (B, HOST, PA_TYPE, TICKET, TWO, Credential, Entry, Name, cache, encrypted, integer, keytab,
+                           old, ticket)
 
 REALM = b"EXAMPLE.ORG"
 ALICE = Name((b"alice",), REALM)

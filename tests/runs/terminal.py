@@ -17,8 +17,7 @@ def all_of(end: int) -> bytes:
     return b"".join(parts).replace(b"\r\n", b"\n")
 
 
-def run_on_terminal(program: str, words, folder: str, stdin: bytes = b"", stream: str = "stderr",
-                    **options) -> Outcome:
+def run_on_terminal(program: str, words, folder: str, stdin: bytes = b"", stream: str = "stderr", **options) -> Outcome:
     """Makes a run with one output on a terminal, by default the error output."""
     ours, theirs = os.openpty()
     with ThreadPoolExecutor(1) as pool:

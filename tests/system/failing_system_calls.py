@@ -50,8 +50,7 @@ def is_met(ends: Ends, line: str, end: End) -> bool:
     if is_repeated or SPARED.match(line) or NARROWED.match(line):
         return end == ends.whole
     saves = ends.of_saves if ends.run.files_after != ends.run.files else []
-    return end in [*ends.of_loads, *saves] or (
-        ends.run in TWO_FILES and bool(LOOK.match(line)) and end == ends.whole)
+    return end in [*ends.of_loads, *saves] or (ends.run in TWO_FILES and bool(LOOK.match(line)) and end == ends.whole)
 
 
 def faults_of_files(ends: Ends, files: dict[str, bytes]) -> list[str]:
