@@ -32,12 +32,10 @@ PRINCIPALS = {b"x" * size + b"@R": Name((b"x" * size,)) for size in (0, 27, 28, 
 
 # The tickets of a cache, and the members about them: how many, the last end, and whether that is over.
 SUMMARIES: list[tuple[tuple[Credential | bytes, ...], str]] = [
-    ((), '0,"endtime":null,"expired":true'),
-    ((OVER,), '1,"endtime":1700036000,"expired":true'),
+    ((), '0,"endtime":null,"expired":true'), ((OVER,), '1,"endtime":1700036000,"expired":true'),
     ((OVER, TGT, OVER), f'3,"endtime":{FUTURE},"expired":false'),
     # Where there is a ticket-granting ticket of the own realm, only such ones count for the end.
-    ((HOST, OVER), '2,"endtime":1700036000,"expired":true'),
-    ((of_host(endtime=0),), '1,"endtime":0,"expired":true'),
+    ((HOST, OVER), '2,"endtime":1700036000,"expired":true'), ((of_host(endtime=0),), '1,"endtime":0,"expired":true'),
     ((TGT.removed(), PA_TYPE), '0,"endtime":null,"expired":true'),
     ((TGT, b"\0", HOST), f'1,"endtime":{FUTURE},"expired":false'),
 ]

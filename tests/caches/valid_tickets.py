@@ -29,9 +29,7 @@ def service(*components: bytes, realm: bytes = b"R", **more) -> Credential:
 
 # The tickets of a cache, and whether one is to go on with.
 TICKETS: list[tuple[str, tuple[Credential | bytes, ...], Outcome]] = [
-    ("none", (), NONE),
-    ("a ticket-granting ticket", (TGT,), VALID),
-    ("one that is over", (OVER,), NONE),
+    ("none", (), NONE), ("a ticket-granting ticket", (TGT,), VALID), ("one that is over", (OVER,), NONE),
     ("another ticket alone", (HOST,), VALID),
     # One of the default principal's realm decides, wherever it is.
     ("one that is over, and another ticket", (OVER, HOST), NONE),

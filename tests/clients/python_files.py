@@ -149,8 +149,7 @@ def not_read(kind: str) -> str:
 
 SCRIPTS = (
     ("files that are read", LOADS, TWO, [
-        *6 * ["True"],
-        "True; OSError EFBIG 'k' file too large: it has more than 97 bytes",
+        *6 * ["True"], "True; OSError EFBIG 'k' file too large: it has more than 97 bytes",
         "OSError EFBIG 'k' file too large: it has more than 97 bytes",
         *(f"{NO_ENTRY} {name!r} {NO_FILE}" for name in ("none", "", "")),
         f"IsADirectoryError EISDIR b'folder' cannot read: {CAUSES['EISDIR']}",
@@ -160,8 +159,7 @@ SCRIPTS = (
         f"{NO_ENTRY} 'DIR::k' {not_read('DIR:')}", f"{NO_ENTRY} 'none' {NO_FILE}",
         f"KrbfileError 12 k: {BEGINS_AS_KEYTAB[1].replace(' (list it with -k)', '')}",
         f"{NO_ENTRY} 'KCM:0' {not_read('KCM:')}", f"{NO_ENTRY} b'WRFILE:k' {not_read('WRFILE:')}",
-        f"{NO_ENTRY} 'DIR:k' {NO_FILE}: a collection; give one of its caches, DIR::FILE",
-        f"{NO_ENTRY} 'C:k' {NO_FILE}",
+        f"{NO_ENTRY} 'DIR:k' {NO_FILE}: a collection; give one of its caches, DIR::FILE", f"{NO_ENTRY} 'C:k' {NO_FILE}",
         "['c', 'circle', 'folder', 'k', 'large', 'short']",
     ]),
     ("default names", DEFAULTS, cache(TICKET, PA_TYPE), [
@@ -173,8 +171,7 @@ SCRIPTS = (
         f"{NO_ENTRY} 'no/new' cannot write: {CAUSES['ENOENT']}", f"{NO_ENTRY} 'KCM:0' {not_read('KCM:')}",
         f"{NO_ENTRY} '' cannot write: {CAUSES['ENOENT']}",
         f"OSError EINVAL 'k.krbfile' cannot write: {CAUSES['name of saves']}",
-        f"OSError ENOSPC 'other' cannot write: {CAUSES['ENOSPC']}",
-        f"{NEW_CACHE} ['link', 'new']",
+        f"OSError ENOSPC 'other' cannot write: {CAUSES['ENOSPC']}", f"{NEW_CACHE} ['link', 'new']",
     ]),
     ("files that are not held", REFUSED, TWO, [
         f"{NO_ENTRY} 'no/k' cannot write: {CAUSES['ENOENT']}",
@@ -182,8 +179,7 @@ SCRIPTS = (
         "KrbfileError 31 cut: the file is damaged", f"KrbfileError 12 c: {BEGINS_AS_CACHE[1]}",
         f"{NO_ENTRY} b'KCM:0' {not_read('KCM:')}", f"{NO_ENTRY} 'none' {NO_FILE}",
         "OSError EFBIG 'k' file too large: it has more than 97 bytes", f"{NO_ENTRY} 'none' {NO_FILE}",
-        "OSError EIO 'k' krbfile ended too early",
-        f"{NO_ENTRY} './none' No such file or directory",
+        "OSError EIO 'k' krbfile ended too early", f"{NO_ENTRY} './none' No such file or directory",
         f"{NO_ENTRY} 'krbfile' the program is not on PATH: install it, or set KRBFILE or krbfile.PROGRAM to its path",
         "['c', 'cut', 'k']",
     ]),

@@ -218,8 +218,7 @@ SCRIPTS: tuple[Script, ...] = (
     ]),
     ("caches", CACHES, cache(TICKET, PA_TYPE), [
         "u@R krbtgt/R@R u@R True 22 130", "17 1700000000 0 1700036000 0 0x40e00000", "True b'tkt' b'' False",
-        "b'2' None", "True", f"none@R: {code(9)}", "266 True", "[22, 22] None",
-        f"['host/a@R'] {CACHE_AFTER.hex()}",
+        "b'2' None", "True", f"none@R: {code(9)}", "266 True", "[22, 22] None", f"['host/a@R'] {CACHE_AFTER.hex()}",
         f"KrbfileError 33 {LIBRARY_CODES[3]} {cache(default=Name((b'a',))).hex()}",
     ]),
     ("names and keys", TEXTS, b"", [

@@ -105,8 +105,7 @@ CASES += [
     copy("another key of the new name", "-p b@R --as c@R", TWO, keytab(B, replace(C, key=b"")),
          printed("clash 53 47 kvno 3 etype 17 c@R", status=1)),
     # Which keys two keytabs do not share: not by order, times, name types and doubles.
-    diff("", TWO, keytab(OTHER), f"- 2 {X}", f"! 53 2 {Y}"),
-    diff("", keytab(OTHER), TWO, f"! 2 53 {Y}", f"+ 2 {X}"),
+    diff("", TWO, keytab(OTHER), f"- 2 {X}", f"! 53 2 {Y}"), diff("", keytab(OTHER), TWO, f"! 2 53 {Y}", f"+ 2 {X}"),
     diff("", keytab(C, HOST, OTHER, HOST), keytab(AES256, FIVE, B), "- 2 kvno 3 etype 17 c@R", f"- 47 {X}",
          f"! 98 {len(keytab(AES256, FIVE))} {Y}", f"+ {line_of(AES256)}", f"+ {line_of(FIVE, AES256)}"),
     diff("", keytab(OTHER, B), keytab(9, B), f"! 2 15 {Y}"), diff("", keytab(9, B), keytab(B, OTHER), f"! 15 2 {Y}"),

@@ -85,7 +85,6 @@ def hole(data: bytes, order: str = BIG) -> bytes:
 
 def keytab(*parts: Entry | int | bytes, version: int = 2, order: str = BIG) -> bytes:
     """Returns a keytab of entries, of holes of zeros given by their sizes, and of other bytes."""
-
     def spelled(part: Entry | int | bytes) -> bytes:
         if isinstance(part, Entry):
             return record(part.spelled(version, order), order)

@@ -69,8 +69,7 @@ def random_credential(random: Random) -> Credential:
         flags=random.choice([0, 2**32 - 1, one_flag, random.randrange(2**32)]),
         addresses=random_list(random), authdata=random_list(random),
         ticket=random.choice([random_ticket(random), random.randbytes(random.choice([0, 1, 3, 20, 300]))]),
-        second_ticket=random_bytes(random, 12),
-        **random_times(random),
+        second_ticket=random_bytes(random, 12), **random_times(random),
     )
 
 

@@ -41,13 +41,9 @@ def recut(random: Random, image: bytes, other: bytes) -> bytes:
     most = min(len(image), 4) if random.random() < 0.5 else len(image)
     more = random.choice([bytes, random.randbytes])(random.choice([1, 2, 3, 4, 8, 30]))
     return random.choice([
-        *[image[:at] + bytes([byte]) + image[at + 1:]] * 5,
-        image[:at] + image[to:],
-        image[:to] + image[at:],
-        image[:at] + other[begin:begin + to - at] + image[to:],
-        *[image[:at] + other[begin:]] * 2,
-        *[image[:random.randrange(most)]] * 3,
-        image[:place] + more + image[place:],
+        *[image[:at] + bytes([byte]) + image[at + 1:]] * 5, image[:at] + image[to:], image[:to] + image[at:],
+        image[:at] + other[begin:begin + to - at] + image[to:], *[image[:at] + other[begin:]] * 2,
+        *[image[:random.randrange(most)]] * 3, image[:place] + more + image[place:],
     ])
 
 

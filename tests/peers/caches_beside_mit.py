@@ -209,7 +209,6 @@ def faults_of_random(program: str, random: Random) -> list[str]:
 
 def in_realm(what: str, *checks: Callable[[Report, str, Realm], None], more: tuple[str, ...] = ()) -> Check:
     """Returns a check that makes those in a realm with its principals and more of them, if MIT's programs are there."""
-
     def check(report: Report, program: str) -> None:
         try:
             with realm(more) as made:

@@ -49,8 +49,7 @@ ROWS: dict[str, tuple[bytes, Encryption]] = {
     "empty realm, sname and cipher": (ticket(DATA[:10] + b"\xa2\0", TICKET_VERSION + b"\xa1\0\xa2\0"), USUAL),
     "no realm": (ticket(DATA, TICKET_VERSION + TICKET_FIELDS[10:]), NOTHING),
     "version 4": (ticket(DATA, TICKET_FIELDS.replace(TICKET_VERSION, b"\xa0\3\2\1\4")), NOTHING),
-    "the kvno twice": (ticket(DATA[:10] + DATA[5:]), NOTHING),
-    "no cipher": (ticket(DATA[:10]), NOTHING),
+    "the kvno twice": (ticket(DATA[:10] + DATA[5:]), NOTHING), "no cipher": (ticket(DATA[:10]), NOTHING),
     "nothing": (b"", NOTHING),
 }
 

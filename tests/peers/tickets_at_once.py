@@ -62,7 +62,6 @@ def storm(program: str, made: Realm, seed: int) -> list[str]:
 
 def check_rounds(report: Report, program: str, seeds: range) -> None:
     """Runs the storms of some seeds, if MIT's programs are installed."""
-
     def check_storms(report: Report, program: str, made: Realm) -> None:
         for seed in seeds:
             report.check(f"ccedit and ccremove beside kvno, round {seed}", storm(program, made, seed)[:3])

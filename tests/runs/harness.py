@@ -165,7 +165,6 @@ def run_case(program: str, case: Case, **options) -> tuple[Outcome, dict[str, by
 def limit(kind: int, most: int, is_spared: bool = True) -> Callable[[], None]:
     """Returns a function that limits a resource. A write that would exceed the limit of a file is cut if the run is
     spared the signal that would end it."""
-
     def before_run() -> None:
         signal.signal(signal.SIGXFSZ, signal.SIG_IGN if is_spared else signal.SIG_DFL)
         resource.setrlimit(kind, (most, most))
@@ -187,7 +186,6 @@ Check = Callable[[Report, str], None]
 def every(*checks: Check, of: str = "", needs: tuple[str, ...] = (), lack: Callable[[], str] = str) -> Check:
     """Returns a check that makes those in turn. Where a tool that they need is missing, or something is lacking, it
     reports the part OF as left out."""
-
     def check(report: Report, program: str) -> None:
         missing = [tool for tool in needs if shutil.which(tool) is None]
         if why := f"{missing[0]} is not there" if missing else lack():

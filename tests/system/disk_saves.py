@@ -67,7 +67,6 @@ def check_others_files(report: Report, program: str) -> None:
 
 def links_to(*links: tuple[str, str], data: bytes | None = OLD) -> Place:
     """Returns a place with two folders, links of these names and texts, and a file unless `data` is None."""
-
     def place(folder: str) -> None:
         for below in ("t", "u"):
             os.mkdir(os.path.join(folder, below))

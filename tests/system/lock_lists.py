@@ -37,8 +37,7 @@ LOCK_LINES = {
                          lock("00:26:0", "-> POSIX  MANDATORY WRITE 12"), lock("00:00:1") * 300 + LOCK),
     (False, False, False): (FLOCK, NO_LOCK, b"\xff", *map(lock, ("00:00:10", "00:26:1", "fe:00:0", "103:26:0",
                                                                  "fe:00:131"))),
-    (False, True, True): (lock("00:1f:0"),),
-    (True, True, False): (lock("00:26:131"), lock("00:00:131")),
+    (False, True, True): (lock("00:1f:0"),), (True, True, False): (lock("00:26:131"), lock("00:00:131")),
 }
 
 # How many milliseconds pass before a wait ends, by the cause reported then, and how many more at most: where time

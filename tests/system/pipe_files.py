@@ -85,8 +85,7 @@ def made(make: Callable[[str], object], path: str) -> Iterator[IsUsed]:
 
 # What is no plain file and no folder, each under a name.
 KINDS: dict[str, Callable[[str], AbstractContextManager[IsUsed]]] = {
-    "a pipe": fed, "a terminal": typed,
-    "a socket": partial(made, lambda path: os.mknod(path, stat.S_IFSOCK | 0o600)),
+    "a pipe": fed, "a terminal": typed, "a socket": partial(made, lambda path: os.mknod(path, stat.S_IFSOCK | 0o600)),
     "a device": partial(made, partial(os.symlink, "/dev/null")),
 }
 
