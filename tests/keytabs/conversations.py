@@ -12,7 +12,7 @@ from collections.abc import Callable
 
 from keytabs.ktutil_lines import NO_SLOTS, TWO_LISTED
 from makers.images import TWO
-from runs.harness import SECONDS, Outcome, Report, differences, folder_of, short, text
+from runs.harness import SECONDS, Outcome, Report, differences, folder_of, piped, short, text
 
 LISTED = text(TWO_LISTED)
 
@@ -52,9 +52,7 @@ def faults_of_talk(program: str, opened: Callable[[], tuple[int, int]], lines: l
     next is sent, and its end by some last bytes, or by the end of the input."""
     theirs, ours = opened()
     found: list[str] = []
-    with folder_of({"k": TWO}) as folder, subprocess.Popen(
-            [program, "ktutil"], cwd=folder, stdin=theirs, stdout=subprocess.PIPE, stderr=subprocess.PIPE,
-            bufsize=0) as talk:
+    with folder_of({"k": TWO}) as folder, piped(program, ("ktutil",), folder, stdin=theirs, bufsize=0) as talk:
         os.close(theirs)
         for sent, due in lines:
             if is_stopped:

@@ -156,6 +156,12 @@ def run(program: str, words, folder: str, stdin: bytes = b"", **options) -> Outc
     return Outcome(done.returncode, done.stdout or b"", done.stderr or b"")
 
 
+def piped(program: str, words, folder: str, **options) -> subprocess.Popen[bytes]:
+    """Starts a run in that folder. Its input and its outputs are pipes, except those that `options` redirect."""
+    pipes = dict.fromkeys(("stdin", "stdout", "stderr"), subprocess.PIPE)
+    return subprocess.Popen([program, *words], cwd=folder, **{**pipes, **options})
+
+
 def run_case(program: str, case: Case, **options) -> tuple[Outcome, dict[str, bytes]]:
     """Runs a case in a folder of its own, and returns its outcome and the files that are there afterwards."""
     with folder_of(case.files) as folder:

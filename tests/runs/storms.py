@@ -7,7 +7,7 @@ from collections.abc import Collection
 from dataclasses import dataclass, field
 from random import Random
 
-from runs.harness import SECONDS
+from runs.harness import SECONDS, piped
 from words.phrases import AFTERMATHS
 
 # A run that is refused has waited for another for this many seconds, or failed for another reason. One that saved, and
@@ -36,8 +36,7 @@ class Run:
     def start(self, folder: str, env: dict[str, str]) -> None:
         """Starts it; it then waits."""
         line = self.line if self.text else (*WAITS, *self.line)
-        self.started = subprocess.Popen(line, cwd=folder, env=env, stdin=subprocess.PIPE, stdout=subprocess.PIPE,
-                                        stderr=subprocess.STDOUT)
+        self.started = piped(line[0], line[1:], folder, env=env, stderr=subprocess.STDOUT)
 
     def begin(self) -> None:
         """Gives it all of its input."""

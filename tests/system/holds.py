@@ -3,7 +3,6 @@ meanwhile."""
 
 import os
 import re
-import subprocess
 from dataclasses import replace
 from functools import partial
 from itertools import product
@@ -11,7 +10,8 @@ from itertools import product
 from keytabs.file_names import LIMIT, sized
 from keytabs.listings import B_LINE, HOST_LINE, listed
 from makers.images import B, BIG, HOST, TWO, USUAL, VERSION_3, Entry, keytab, old, record
-from runs.harness import EXPLAIN, SECONDS, Case, Outcome, Report, differences, every, folder_of, message, run, words_of
+from runs.harness import (EXPLAIN, SECONDS, Case, Outcome, Report, differences, every, folder_of, message, piped, run,
+                          words_of)
 from runs.terminal import run_on_terminal
 from runs.undisturbed import IN_PLACE, frame
 from system.failing_streams import NO_OUTPUT
@@ -156,9 +156,7 @@ def check_outputs(report: Report, program: str) -> None:
             faults = differences(explained(NO_OUTPUT, TO_A_PROGRAM), got) + tree_faults(files, folder)
         report.check(f"a terminal, and {[*files]}", faults)
     for line, (data, after) in product((K, PLACED), ((b"", TWO), (EMPTY, NONE))):
-        with folder_of({"k": TWO}) as folder, subprocess.Popen(
-                [program, *line.split()], cwd=folder, stdin=subprocess.PIPE, stdout=subprocess.PIPE,
-                stderr=subprocess.PIPE) as held:
+        with folder_of({"k": TWO}) as folder, piped(program, line.split(), folder) as held:
             held.stdout.read(len(frame(TWO)))
             held.stdout.close()
             _, err = held.communicate(data, timeout=SECONDS)
@@ -169,8 +167,7 @@ def check_outputs(report: Report, program: str) -> None:
 def check_lasts(report: Report, program: str) -> None:
     """Checks that the file is locked until the input ends, and not any more then, and that listings go on."""
     for line in (K, PLACED):
-        with folder_of({"k": TWO}) as folder, subprocess.Popen(
-                [program, *line.split()], cwd=folder, stdin=subprocess.PIPE, stdout=subprocess.PIPE) as held:
+        with folder_of({"k": TWO}) as folder, piped(program, line.split(), folder) as held:
             path = os.path.join(folder, "k")
             faults = [] if held.stdout.read(len(frame(TWO))) == frame(TWO) else ["no frame"]
             faults += [] if is_locked(path) else ["not locked"]
