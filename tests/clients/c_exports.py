@@ -1,11 +1,9 @@
 """The C library's header and manual page name its exports, their parameters and its statuses."""
 
-import glob
-import os
 import re
 
-from pages.documents import read
-from runs.harness import TOP, Report
+from pages.documents import read, sources
+from runs.harness import Report
 
 EXPORT = re.compile(r'pub extern "C" fn (krbf_\w+)\(([^)]*)\)(?: -> (\w+))?', re.S)
 SYNOPSIS = re.compile(r"^\.Ft (\w+)\n\.Fn (krbf_\w+)(.*)$", re.M)
@@ -36,10 +34,9 @@ def parts(text: str) -> list[str]:
 def exports() -> dict[str, Signature]:
     """Returns the exports of the sources, by name."""
     found = {}
-    for path in glob.glob(os.path.join(TOP, "crates/krb_c/src/**/*.rt"), recursive=True):
-        for name, words, answer in EXPORT.findall(read(path)):
-            kinds = [kind for word in parts(words) for kind in IN_C[word.split(": ", 1)[1]]]
-            found[name] = {"u32": "uint32_t", "": "void"}[answer], tuple(kinds)
+    for name, words, answer in EXPORT.findall(sources("crates/krb_c/src/**/*.rt")):
+        kinds = [kind for word in parts(words) for kind in IN_C[word.split(": ", 1)[1]]]
+        found[name] = {"u32": "uint32_t", "": "void"}[answer], tuple(kinds)
     return found
 
 
@@ -72,8 +69,8 @@ def statuses() -> dict[str, int]:
 
 def check(report: Report, _program: str) -> None:
     numbers = {name: int(number) for name, number in re.findall(r"^ +KRBF_(\w+) = (\d+)", read("c/krbfile.h"), re.M)}
-    sources = statuses()
-    others = [f"{name} is not {number}" for name, number in numbers.items() if sources.get(name) != number]
+    due = statuses()
+    others = [f"{name} is not {number}" for name, number in numbers.items() if due.get(name) != number]
     report.check("the statuses of krbfile.h", others)
     declared, there = prototypes(), exports()
     wrong = sorted(name for name in declared.keys() | shown() if declared.get(name) != shown().get(name))

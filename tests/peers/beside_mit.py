@@ -10,7 +10,7 @@ import subprocess
 from collections.abc import Callable
 from random import Random
 
-from runs.harness import SECONDS, Report, run
+from runs.harness import SECONDS, Report, piped, run
 from theorems import mit_listings
 from theorems.mit_listings import ENTRY, credential_lines, entry_line
 
@@ -35,8 +35,7 @@ SURROUNDINGS |= {"KRB5_CONFIG": os.devnull, "PATH": PATHS, "LC_ALL": "C", "TZ": 
 
 def mit_klist(folder: str, *words: str) -> bytes:
     """Returns the output of MIT's klist."""
-    return subprocess.run(["klist", *words], cwd=folder, env=SURROUNDINGS, capture_output=True, timeout=SECONDS,
-                          check=False).stdout
+    return run("klist", words, folder, env=SURROUNDINGS).out
 
 
 def as_json(program: str, folder: str, *words: str) -> dict:
@@ -102,8 +101,7 @@ class Mit:
         Each request is written only after a prompt. Nothing else may be in the pipe until then:
         a request that reads a line takes all that is there.
         """
-        with subprocess.Popen(["ktutil"], cwd=self.folder, env=self.env, bufsize=0, stdin=subprocess.PIPE,
-                              stdout=subprocess.PIPE, stderr=subprocess.STDOUT) as started:
+        with piped("ktutil", (), self.folder, env=self.env, bufsize=0, stderr=subprocess.STDOUT) as started:
             answers = [self.answer(started)]
             for request in requests:
                 started.stdin.write(request.encode() + b"\n")

@@ -1,13 +1,11 @@
 """Command lines: bundled, repeated, late and long options, help, the version, and lines that are refused."""
 
-import subprocess
-
 from keytabs.listings import sample
 from makers.images import B, TWO, USUAL, keytab
 from makers.samples import SAMPLES
 from runs.commands import CHANGES, COMMANDS, READS
-from runs.harness import (BAD_LINE, Case, Line, Outcome, Report, differences, every, message, printed, run_case, shown,
-                          words_of)
+from runs.harness import (BAD_LINE, TOP, Case, Line, Outcome, Report, differences, every, message, printed, run,
+                          run_case, shown, words_of)
 
 
 def lines_of(lines: str | list[Line]) -> list[str | Line]:
@@ -124,7 +122,7 @@ def check_help(report: Report, program: str) -> None:
 
 def check_toolchain(report: Report, _program: str) -> None:
     """Compares the toolchain's name with what it prints of itself, after the name of its kit."""
-    output = subprocess.run(["rt", "version"], capture_output=True, text=True, check=False).stdout
+    output = run("rt", ("version",), TOP).out.decode()
     named = output.strip().partition(" ")[2]
     report.check("the toolchain of the version", [] if named == TOOLCHAIN else [f"it is {output!r}"])
 
