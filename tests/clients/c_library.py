@@ -41,8 +41,7 @@ def build(folder: str, name: str, *words: str, sources: str = SOURCES) -> str:
 
 def symbols(path: str, *words: str) -> set[str]:
     """Returns the symbols that a library exports."""
-    listed = subprocess.run(["nm", "-g", "--defined-only", *words, path], check=True,
-                            capture_output=True, text=True).stdout
+    listed = run("nm", ("-g", "--defined-only", *words, path), TOP).out.decode()
     fields = (line.split() for line in listed.splitlines())
     return {line[-1].split("@")[0] for line in fields if len(line) == 3 and line[1] != "A"}
 

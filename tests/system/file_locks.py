@@ -52,12 +52,7 @@ def set_back(folder: str) -> dict[str, tuple[object, ...]]:
 def faults_of_waiting(program: str, folder: str, end: Callable[[], None], case: Run = ADD) -> list[str]:
     """Returns the faults of a run that has to wait until `end`, which is called after a moment."""
     has_ended = threading.Event()
-
-    def end_it() -> None:
-        has_ended.set()
-        end()
-
-    timer = threading.Timer(0.3, end_it)
+    timer = threading.Timer(0.3, lambda: (has_ended.set(), end()))
     timer.start()
     faults = differences(case.wanted, run_over(program, case, folder))
     faults += [] if has_ended.is_set() else ["it did not wait"]

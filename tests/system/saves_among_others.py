@@ -72,13 +72,9 @@ def check_change(report: Report, program: str, call: str, of: tuple[str, bool, P
         if is_there:
             write(os.path.join(folder, "k"), OLD)
         wanted: dict[str, object] = {}
-
-        def change_and_look(folder: str) -> None:
-            change(folder)
-            wanted.update(known(folder))
-
         adds = undisturbed(("ktedit", *options, "k"), SCRIPT)
-        faults = differences(UNSAVED, halted(program, adds, folder, HALTS[call], change_and_look))
+        faults = differences(UNSAVED, halted(program, adds, folder, HALTS[call], lambda folder: (
+            change(folder), wanted.update(known(folder)))))
         if known(folder) != wanted or NEW in tree(folder).values():
             faults.append(f"{[*tree(folder)]} are there, or are not as they were")
     report.check(f"{what}, behind the {call} of a run {' '.join(options)}", faults)
