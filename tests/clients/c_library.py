@@ -113,7 +113,7 @@ def check_edit(report: Report, program: str) -> None:
 def check_given(report: Report, folder: str) -> None:
     """Passes calls no bytes, and bytes inside their own keytab or cache, and refuses each of their allocations in
     turn."""
-    for name, words in (("no_bytes", SANITIZED), ("own_bytes", SANITIZED), ("refused_memory", WRAPS)):
+    for name, words in (("own_bytes", SANITIZED), ("refused_memory", WRAPS)):
         report.compare(f"C: {name}.c", Outcome(0), run(build(folder, name, *words), (), folder))
     if shutil.which("valgrind") is None:
         report.skip("own_bytes.c under valgrind", "valgrind is not there")

@@ -17,7 +17,7 @@ from theorems.mit_listings import cache_listing, credentials, keytab_listing, pa
 # that is longer than the file, and krbfile refuses version 2.
 ALONE = ("heim-names", "v1-le-mit-two", "v1-le-mit-removed", "kinit-v2")
 
-# Damaged files, of which MIT's programs list what is before the damage, and report none. Caches with tickets that MIT's
+# Damaged files: MIT's programs list what is before the damage, and do not report it. Caches with tickets that MIT's
 # klist cannot decode: of such a ticket it shows no encryption type.
 DAMAGED = ("hole-last-truncated", "stray-3-bytes", "truncated")
 UNDECODED = ("lib-authdata-addrs", "lib-removed", "lib-removed-before", "mit-t_marshal-v3", "mit-t_marshal-v4")
