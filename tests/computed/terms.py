@@ -23,9 +23,8 @@ OPERANDS = {"ktfind": ("FILE", "KVNO", "ETYPE", "NAME"), "ktcopy": ("FROM", "TO"
 # What each definition is given before the files, which have an input after them, and klist's by its other options.
 GIVEN = {"klist": ("explains",), "ktfind": ("explains",), "ktcopy": ("explains",), "ktdiff": ("explains",),
          "ktedit": ("explains",), "ccedit": ("explains",), "ktcheck": ("explains", "mode", "clock"),
-         "show": ("explains", "clock"),
-         "ktremove": ("explains", "clock"), "ccremove": ("explains", "clock"), "ktutil": ("explains", "clock"),
-         "klist_silent": ("clock",), "klist_overview": ("explains", "clock")}
+         "show": ("explains", "clock"), "ktremove": ("explains", "clock"), "ccremove": ("explains", "clock"),
+         "ktutil": ("explains", "clock"), "klist_silent": ("clock",), "klist_overview": ("explains", "clock")}
 READING = ("ktedit", "ccedit", "ktutil")
 OTHERS = {"list": "klist_overview", "silent": "klist_silent"}
 

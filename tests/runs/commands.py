@@ -184,10 +184,9 @@ def mixed_cache(count: int) -> bytes:
 def talk(count: int) -> Undisturbed:
     """Returns a run of ktutil that reads `a` and `b`, makes `n` and changes `a`, with some faulty lines. `b` has an end
     mark, `d` is damaged, and `a` has that many entries."""
-    lines = ["l", "rkt a", "l -t -k -e", "addent -key -p new/one@R -k 7 -e 18", KEYS[32],
-             "wkt n", "frob", "rkt b", "delent 2", "wkt n", "rkt no", "l -t -k -e", "clear",
-             "rkt d", "addent -key -p x@R -k 1 -e 17", "00", "rkt n", "wkt a", "wkt d", "l", "rkt a",
-             "addent -p y@R -key -e 17 -k 300", KEYS[16], "wkt a", "l -e",
+    lines = ["l", "rkt a", "l -t -k -e", "addent -key -p new/one@R -k 7 -e 18", KEYS[32], "wkt n", "frob", "rkt b",
+             "delent 2", "wkt n", "rkt no", "l -t -k -e", "clear", "rkt d", "addent -key -p x@R -k 1 -e 17", "00",
+             "rkt n", "wkt a", "wkt d", "l", "rkt a", "addent -p y@R -key -e 17 -k 300", KEYS[16], "wkt a", "l -e",
              "addent -key -p z@R -k 1 -e 1"]
     marked = old(Entry((b"m",)), Entry((b"n",))) + END + b"xyz"
     return at_now("ktutil", text(lines), a=mixed_keytab(count), b=marked, d=DAMAGED)
