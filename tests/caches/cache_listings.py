@@ -21,10 +21,8 @@ def listed(default: bytes, *lines: bytes, name: bytes = b"c") -> bytes:
     return b"".join(line + b"\n" for line in (*first, *lines))
 
 
-# The line that each column adds.
+# The line that each column adds, and a name of the greatest count, which has its realm alone.
 ADDED = {"f": b"    Flags: FRIA", "e": b"    Etype: aes128-cts-hmac-sha1-96", "C": b"config: pa_type(krbtgt/R@R) = 2"}
-
-# A name of the greatest count, which has its realm alone.
 MANY = Name((), count=2**32 - 1)
 
 # How an overview begins.

@@ -1,12 +1,12 @@
-"""Caches of 16,777,216 bytes that are changed or printed as JSON, and scripts as long, as they end where there is
-room."""
+"""Caches of up to 16,777,216 bytes that are listed, also as JSON, or changed, and scripts as long, as they end where
+there is room."""
 
 from dataclasses import replace
 
 from keytabs.file_names import LIMIT
 from keytabs.greatest import at_each, repeated, with_room
-from makers.images import Credential, Name, cache, config
-from runs.harness import Case
+from makers.images import TICKET, U, Credential, Name, cache, config
+from runs.harness import Case, message, over
 
 # The smallest ticket: empty names, and no byte that is not a length, a time or a flag.
 LEAST = Credential(Name((), b"", 0), Name((), b"", 0), 0, None, b"", 0, 0, 0, flags=0, ticket=b"")
@@ -21,6 +21,26 @@ VALUE = b"v" * (ROOM - len(config(b"k", b"").spelled()))
 def least() -> bytes:
     """Returns the cache of the most tickets."""
     return cache(repeated(LEAST.spelled(), ROOM))
+
+
+def sized(size: int) -> bytes:
+    """Returns a cache of that size, with one long ticket."""
+    return cache(replace(TICKET, ticket=bytes(size - len(cache(replace(TICKET, ticket=b""))))))
+
+
+def listings() -> list[Case]:
+    """Returns listings of the greatest cache, of one that is too large, and of some of 16,000,000 bytes."""
+    count = 4_000_000
+    client = Name((), count=count).spelled() + bytes(4 * count)
+    return [
+        with_room("the greatest cache", "klist c", c=sized(LIMIT)),
+        over("a cache that is too large", "klist c", sized(LIMIT + 1), message(1, "c: file too large")),
+        *(with_room(name, "klist -C c", c=cache(cells)) for name, cells in (
+            ("4,000,000 components", client + TICKET.spelled()[len(U.spelled()):]),
+            ("a value of 16,000,000 bytes", config(b"k", b"\xff" * 16_000_000).spelled()),
+            ("225,000 credentials of 67 bytes", LEAST.spelled() * 225_000),
+            ("as many that were removed", LEAST.removed().spelled() * 225_000))),
+    ]
 
 
 def reads() -> list[Case]:

@@ -2,10 +2,9 @@
 
 from caches.cache_listings import HEADING, line_of, of_host
 from caches.valid_tickets import FUTURE, HOST, OVER, TGT, TICKETS
-from keytabs.file_names import check_unreadable
 from makers.images import PA_TYPE, TWO, Credential, Name, cache
-from runs.harness import Line, Outcome, Report, shown, words_of
-from words.explaining import FAILED, FULL, Explained
+from runs.harness import Line, words_of
+from words.explaining import FAILED, FULL, Explained, over_files
 from words.phrases import BAD_HEADER, BEGINS_AS_KEYTAB, CAUSES, COLLECTION
 
 BREAKS = ("crates/krb_readers/src/klist", "crates/krb_json/src/summary.rt")
@@ -20,14 +19,13 @@ NONE = {name: ((f"{name}: {what}", why), status) for name, what, why, status in 
     ("x", f"not a cache ({BAD_HEADER[0]})", BAD_HEADER[1], 1))}
 
 
-def overview(line: str | Line, *lines: bytes, files: dict[str, bytes] | None = None, front: bytes = HEADING,
+def overview(line: str | Line, *lines: bytes, files: dict[str, bytes] = FILES, front: bytes = HEADING,
              **more) -> Explained:
     """Returns a run over some files, its lines, and the messages about those that are no caches."""
-    words = ("klist", *words_of(line))
-    missing = [NONE[word] for word in words if word in NONE]
-    more = {"status": max([status for _, status in missing], default=0), "after": files or FILES, **more}
-    return Explained(shown(words), words, more.pop("output", tuple(each for each, _ in missing)), files or FILES,
-                     out=front + b"".join(lines), **more)
+    missing = [NONE[word] for word in words_of(line) if word in NONE]
+    more = {"status": max([status for _, status in missing], default=0), **more}
+    output = more.pop("output", [each for each, _ in missing])
+    return over_files("klist", line, files, front + b"".join(lines), *output, **more)
 
 
 # Default principals, and how they print.
@@ -36,12 +34,10 @@ PRINCIPALS = {b"x" * size + b"@R": Name((b"x" * size,)) for size in (0, 27, 28, 
 
 # The tickets of a cache, and the members about them: how many, the last end, and whether that is over.
 SUMMARIES: list[tuple[tuple[Credential | bytes, ...], str]] = [
-    ((), '0,"endtime":null,"expired":true'),
-    ((OVER,), '1,"endtime":1700036000,"expired":true'),
+    ((), '0,"endtime":null,"expired":true'), ((OVER,), '1,"endtime":1700036000,"expired":true'),
     ((OVER, TGT, OVER), f'3,"endtime":{FUTURE},"expired":false'),
     # Where there is a ticket-granting ticket of the own realm, only such ones count for the end.
-    ((HOST, OVER), '2,"endtime":1700036000,"expired":true'),
-    ((of_host(endtime=0),), '1,"endtime":0,"expired":true'),
+    ((HOST, OVER), '2,"endtime":1700036000,"expired":true'), ((of_host(endtime=0),), '1,"endtime":0,"expired":true'),
     ((TGT.removed(), PA_TYPE), '0,"endtime":null,"expired":true'),
     ((TGT, b"\0", HOST), f'1,"endtime":{FUTURE},"expired":false'),
 ]
@@ -77,8 +73,3 @@ CASES = [
     *(overview(line, front=b"", options=FULL, status=3, output=output) for line, output in (
         ("-l no", (FAILED,)), ("-l --json no t .", (NONE["no"][0], FAILED)))),
 ]
-
-
-def check(report: Report, program: str) -> None:
-    """Checks a file that may not be read."""
-    check_unreadable(report, program, "-l", cache(TGT), Outcome(3, HEADING, b"krbfile: k: cannot read\n"))

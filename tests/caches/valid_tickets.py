@@ -4,16 +4,15 @@ import os
 from dataclasses import replace
 
 from caches.cache_listings import of_host
-from keytabs.file_names import LIMIT, check_unreadable
+from keytabs.file_names import LIMIT
 from makers.images import PA_TYPE, TICKET, TWO, Credential, Name, cache, config_ticket
 from runs.harness import Case, Outcome, Report, folder_of, run, words_of
 from system.pipe_files import fed
 
 BREAKS = ("crates/krb_readers/src/klist", "crates/krb_audit/src/tickets.rt")
 
-# A time that does not come during a test; the usual ticket ended before.
+# A time that does not come during a test; the usual ticket ended before. And how runs end.
 FUTURE = 2**32 - 1
-
 VALID, NONE, UNREAD = Outcome(0), Outcome(1), Outcome(3)
 
 # Ticket-granting tickets of the default principal's realm, R, one of them over, and a ticket for host/a@R.
@@ -32,9 +31,7 @@ def service(*components: bytes, realm: bytes = b"R", **more) -> Credential:
 
 # The tickets of a cache, and whether one is to go on with.
 TICKETS: list[tuple[str, tuple[Credential | bytes, ...], Outcome]] = [
-    ("none", (), NONE),
-    ("a ticket-granting ticket", (TGT,), VALID),
-    ("one that is over", (OVER,), NONE),
+    ("none", (), NONE), ("a ticket-granting ticket", (TGT,), VALID), ("one that is over", (OVER,), NONE),
     ("another ticket alone", (HOST,), VALID),
     # One of the default principal's realm decides, wherever it is.
     ("one that is over, and another ticket", (OVER, HOST), NONE),
@@ -56,8 +53,7 @@ TICKETS: list[tuple[str, tuple[Credential | bytes, ...], Outcome]] = [
     *((f"a name of a configuration entry and {len(after)} more", (config_ticket(*after, endtime=FUTURE),), wanted)
       for after, wanted in (((), VALID), ((b"k", b"p"), NONE), ((b"k", b"p", b"q"), VALID))),
     # What follows a fault is not read, what precedes it is.
-    ("a damaged tail", (TGT, b"\0"), VALID),
-    ("one that is over, and a damaged tail", (OVER, b"\0"), NONE),
+    ("a damaged tail", (TGT, b"\0"), VALID), ("one that is over, and a damaged tail", (OVER, b"\0"), NONE),
     ("a fault before it", (b"\xff" * 9, TGT), NONE),
 ]
 
@@ -73,15 +69,9 @@ CASES = [
 ]
 
 
-def check_places(report: Report, program: str) -> None:
+def check(report: Report, program: str) -> None:
     """Checks names that lead to no plain file: a pipe is not opened."""
     with folder_of({}) as folder, fed(os.path.join(folder, "pipe")) as is_used:
         for name in (".", "/dev/null", "x" * 256, "pipe"):
             report.compare(f"a name: {name[:20]}", UNREAD, run(program, ("klist", "-s", name), folder))
         report.check("a pipe", ["it was opened"] * is_used())
-
-
-def check(report: Report, program: str) -> None:
-    """Checks files that are not in a table."""
-    check_places(report, program)
-    check_unreadable(report, program, "-s", cache(TGT), UNREAD)

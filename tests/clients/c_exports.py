@@ -1,11 +1,9 @@
 """The C library's header and manual page name its exports, their parameters and its statuses."""
 
-import glob
-import os
 import re
 
-from pages.documents import read
-from runs.harness import TOP, Report
+from pages.documents import read, sources
+from runs.harness import Report
 
 BREAKS = ("c/krbfile.h", "c/krbfile.map", "docs/krbfile.3", "crates/krb_c")
 
@@ -15,15 +13,9 @@ PROTOTYPE = re.compile(r"^(uint32_t|void) (krbf_\w+)\(([^)]*)\);", re.S | re.M)
 
 # The C form of an export's parameter. An allocator takes no bytes.
 IN_C = {
-    "Global": [],
-    "usize": ["size_t"],
-    **{f"u{bits}": [f"uint{bits}_t"] for bits in (16, 32)},
-    "&[u8]": ["const bytes *", "size_t"],
-    "&mut [u8]": ["bytes *", "size_t"],
-    "&mut [u32]": ["uint32_t *", "size_t"],
-    "&mut u32": ["uint32_t *"],
-    "&mut usize": ["size_t *"],
-    "&KrbfNumbers": ["const krbf_numbers *"],
+    "Global": [], "usize": ["size_t"], **{f"u{bits}": [f"uint{bits}_t"] for bits in (16, 32)},
+    "&[u8]": ["const bytes *", "size_t"], "&mut [u8]": ["bytes *", "size_t"], "&mut [u32]": ["uint32_t *", "size_t"],
+    "&mut u32": ["uint32_t *"], "&mut usize": ["size_t *"], "&KrbfNumbers": ["const krbf_numbers *"],
     **{f"&mut Krbf{name}": [f"krbf_{name.lower()} *"] for name in ("Bytes", "Entry", "Ticket", "Keytab", "Ccache")},
 }
 
@@ -44,10 +36,9 @@ def parts(text: str) -> list[str]:
 def exports() -> dict[str, Signature]:
     """Returns the exports of the sources, by name."""
     found = {}
-    for path in glob.glob(os.path.join(TOP, "crates/krb_c/src/**/*.rt"), recursive=True):
-        for name, words, answer in EXPORT.findall(read(path)):
-            kinds = [kind for word in parts(words) for kind in IN_C[word.split(": ", 1)[1]]]
-            found[name] = {"u32": "uint32_t", "": "void"}[answer], tuple(kinds)
+    for name, words, answer in EXPORT.findall(sources("crates/krb_c/src/**/*.rt")):
+        kinds = [kind for word in parts(words) for kind in IN_C[word.split(": ", 1)[1]]]
+        found[name] = {"u32": "uint32_t", "": "void"}[answer], tuple(kinds)
     return found
 
 
@@ -80,13 +71,12 @@ def statuses() -> dict[str, int]:
 
 def check(report: Report, _program: str) -> None:
     numbers = {name: int(number) for name, number in re.findall(r"^ +KRBF_(\w+) = (\d+)", read("c/krbfile.h"), re.M)}
-    sources = statuses()
-    others = [f"{name} is not {number}" for name, number in numbers.items() if sources.get(name) != number]
+    due = statuses()
+    others = [f"{name} is not {number}" for name, number in numbers.items() if due.get(name) != number]
     report.check("the statuses of krbfile.h", others)
     declared, there = prototypes(), exports()
     wrong = sorted(name for name in declared.keys() | shown() if declared.get(name) != shown().get(name))
     report.check("the synopsis of krbfile(3)", wrong)
     for name in sorted(declared.keys() | there.keys()):
-        is_same = declared.get(name) == there.get(name)
-        faults = [] if is_same else [f"{declared.get(name)}, not {there.get(name)}"]
-        report.check(f"krbfile.h: {name}", faults)
+        got, due = declared.get(name), there.get(name)
+        report.check(f"krbfile.h: {name}", [] if got == due else [f"{got}, not {due}"])

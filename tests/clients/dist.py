@@ -28,10 +28,8 @@ INSTALLED = """BINDIR/krbfile INCLUDEDIR/krbfile.h LIBDIR/libkrbfile.a LIBDIR/li
     DATADIR/fish/vendor_completions.d/krbfile.fish DATADIR/zsh/site-functions/_krbfile MANDIR/man1/krbfile.1
     MANDIR/man3/krbfile.3 MANDIR/man3/krbf_kt_open.3 MANDIR/man5/krbfile.5 PYTHONDIR/krbfile/py.typed"""
 
-# The time that a packager gives.
+# The time that a packager gives. A listing by the static program, and a missing file, in a root of that and a keytab.
 EPOCH = 1_700_000_000
-
-# A listing by the static program, and a missing file, in a root that has only that and the keytab.
 STATIC = os.path.join(TOP, BUILT[0])
 ROWS = {("klist", "-kt", "/k"): Outcome(0, sample("t").replace(b"FILE:k\n", b"FILE:/k\n")),
         ("klist", "-k", "/x"): message(1, "/x: no such file")}
@@ -107,8 +105,7 @@ def check_debian(report: Report, program: str) -> None:
         os.makedirs(os.path.join(root, "var/lib/dpkg/updates"))
         Path(root, "var/lib/dpkg/status").touch()
         names = sorted(name.partition("_")[0] for name in os.listdir(one))
-        dpkg = ("dpkg", f"--root={root}", "--force-depends", "--log=/dev/null")
-        first, *words = (*UNSHARE, *dpkg)
+        first, *words = (*UNSHARE, "dpkg", f"--root={root}", "--force-depends", "--log=/dev/null")
         got = run(first, (*words, "-i", *(os.path.join(one, name) for name in os.listdir(one))), root)
         report.check("they are installed", [f"{got}"] * (got.status != 0))
         report.compare("their program", Outcome(1, b"empty\nentries 0 free 0 holes 0\n"), run(

@@ -8,7 +8,6 @@ import signal
 from dataclasses import replace
 from importlib import import_module, util
 
-from keytabs.checks import as_json
 from makers.images import FIELDS, TICKET, Name, cache, header_field, offset
 from makers.samples import SAMPLES, make
 from pages.documents import read
@@ -19,8 +18,9 @@ BREAKS = ("examples",)
 
 # The files of jobs, each with a line that it prints, and another that all do.
 FOUND = b"./mixed.keytab: weak 53 kvno 3 etype 23 b@R\n./mixed.keytab: entries 2 free 0 holes 0\n"
-JOBS = {"keytabs.cron": FOUND, "keytabs.service": FOUND, "keytabs.yml": as_json(
-    "./mixed.keytab", "600", FOUND.replace(b"./mixed.keytab: ", b""), 1)}
+JOBS = {"keytabs.cron": FOUND, "keytabs.service": FOUND, "keytabs.yml":
+        b'{"file":"./mixed.keytab","mode":"600","entries":2,"free":0,"holes":0,"findings":[{"finding":"weak",'
+        b'"place":53,"kvno":3,"etype":23,"principal":"b@R"}],"fault":null,"status":1}'}
 REMOVED = b"removed 2 kvno 3 etype 17 host/a@R\n"
 
 # The scripts, also over a cache with an offset and two tickets for one service, and the files that they leave.
@@ -30,8 +30,7 @@ SCRIPTS = {
         2, b"KEYTABS CRITICAL: damaged.keytab: missing a/b@R, fault 2 at 53; no: no such file\n"),
     "check_keytabs.sh host.keytab .": Outcome(3, b"KEYTABS UNKNOWN: .: cannot read\n"),
     "keytabs.prom.sh keytabs.prom --want b@R mixed.keytab twice.keytab .": Outcome(0, err=b"krbfile: .: cannot read\n"),
-    "tickets.prom.sh odd tickets.prom": Outcome(0),
-    "reset-offset.pl odd": Outcome(0),
+    "tickets.prom.sh odd tickets.prom": Outcome(0), "reset-offset.pl odd": Outcome(0),
     "edit-keytab.sh host.keytab sh -c 'cat; tail -c +3 other.keytab'": Outcome(0),
     "edit-keytab.sh host.keytab sh -c 'printf x'": message(1, "input: not a keytab (1)"),
     "edit-keytab.sh no/k cat": message(3, "no/k: cannot write"),

@@ -13,12 +13,8 @@ from keytabs.edits import FAULTS
 from keytabs.ktutil_lines import FAULTS as KTUTIL_FAULTS
 from keytabs.ktutil_lines import NO_KEYS
 from makers.images import BIG, LITTLE, TWO, hole, keytab, name_text
-from makers.mutations import damaged
 from makers.random_caches import KEYS, PRINCIPALS, filled_cache, random_credential, random_value, with_damage
-from makers.random_keytabs import Choices, random_bytes, random_keytab
-from runs.harness import Outcome, Report, folder_of
-from runs.harness import run as run_program
-from runs.random_runs import Rounds
+from makers.random_keytabs import Choices, damaged, random_bytes, random_keytab
 from runs.undisturbed import Undisturbed, undisturbed
 
 BREAKS = ("crates/krb_wire", "crates/krb_walk", "crates/krb_cells", "crates/krb_keytab", "crates/krb_ccache")
@@ -224,27 +220,8 @@ def copy(random: Random) -> Iterator[Undisturbed]:
     yield undisturbed(("ktdiff", *asked, "t", "k"), k=source, t=left)
 
 
-def check_same(report: Report, program: str, numbers: range) -> None:
-    """Checks that two keytabs do not differ iff copying each into the other reports nothing."""
-    wrong, ways = [], (("k", "t"), ("t", "k"))
-    for number in numbers:
-        random = Random(number)
-        words = ("--v1-big",) * random.randrange(2)
-        with folder_of({name: few_entries(random, bool(words)) for name in "kt"}) as folder:
-            for way in ways * random.randrange(2):
-                run_program(program, ("ktcopy", *words, *way), folder)
-            diff, *copied = (run_program(program, (*line, *words, *way), folder) for line, way in (
-                (("ktdiff",), ways[0]), *((("ktcopy", "-n"), way) for way in ways)))
-        wrong += [f"{number}: {diff}, {copied}"] * ((diff == Outcome(0)) != (copied == [Outcome(0)] * 2))
-    report.check("keytabs that are the same copy nothing", wrong[:3])
-
-
 TOPICS = (
-    Topic("random scripts", keytab_script, 60),
-    Topic("random scripts over caches", cache_script, 70),
-    Topic("random inputs of ktutil", ktutil_input, 80),
-    Topic("random removals", removal, 50),
-    Topic("random removals of tickets", ticket_removal, 70),
-    Topic("random copies", copy, 60),
-    Rounds(check_same, share=50, usual=60, name="same_keytabs"),
+    Topic("random scripts", keytab_script, 60), Topic("random scripts over caches", cache_script, 70),
+    Topic("random inputs of ktutil", ktutil_input, 80), Topic("random removals", removal, 50),
+    Topic("random removals of tickets", ticket_removal, 70), Topic("random copies", copy, 60),
 )

@@ -8,11 +8,10 @@ from random import Random
 from computed.topic import Topic
 from keytabs.listings import KNOWN_TIMES
 from makers.images import CONFIG_FIRST, CONFIG_REALM, TWO, Credential, Name, cache, name_text
-from makers.mutations import damaged, mutated
 from makers.random_caches import SAMPLES as CACHES
 from makers.random_caches import random_cache, random_credential, with_damage
 from makers.random_keytabs import SAMPLES as KEYTABS
-from makers.random_keytabs import Choices, random_image
+from makers.random_keytabs import Choices, damaged, mutated, random_image
 from runs.undisturbed import Undisturbed, undisturbed
 from words.phrases import FINDINGS
 
@@ -131,11 +130,7 @@ def question(random: Random) -> Iterator[Undisturbed]:
 
 
 TOPICS = (
-    Topic("random keytabs", keytab_listing, 100),
-    Topic("random caches", cache_listing, 60),
-    Topic("random overviews", overview, 40),
-    Topic("random look-ups", look_up, 80),
-    Topic("random views", view, 40),
-    Topic("random checks", checked, 80),
-    Topic("random questions for tickets", question, 40),
+    Topic("random keytabs", keytab_listing, 100), Topic("random caches", cache_listing, 60),
+    Topic("random overviews", overview, 40), Topic("random look-ups", look_up, 80), Topic("random views", view, 40),
+    Topic("random checks", checked, 80), Topic("random questions for tickets", question, 40),
 )

@@ -18,15 +18,13 @@ LONG = ("json", "for=", "v1-big", "in-place", "allow=", "older=", "want=", "age=
         "all-services", "expired")
 
 # The names of the operands; the last one is for all that follow.
-OPERANDS = {"ktfind": ("FILE", "KVNO", "ETYPE", "NAME"), "ktcopy": ("FROM", "TO"), "ktdiff": ("A", "B"),
-            "ktutil": ()}
+OPERANDS = {"ktfind": ("FILE", "KVNO", "ETYPE", "NAME"), "ktcopy": ("FROM", "TO"), "ktdiff": ("A", "B"), "ktutil": ()}
 
 # What each definition is given before the files, which have an input after them, and klist's by its other options.
 GIVEN = {"klist": ("explains",), "ktfind": ("explains",), "ktcopy": ("explains",), "ktdiff": ("explains",),
          "ktedit": ("explains",), "ccedit": ("explains",), "ktcheck": ("explains", "mode", "clock"),
-         "show": ("explains", "clock"),
-         "ktremove": ("explains", "clock"), "ccremove": ("explains", "clock"), "ktutil": ("explains", "clock"),
-         "klist_silent": ("clock",), "klist_overview": ("explains", "clock")}
+         "show": ("explains", "clock"), "ktremove": ("explains", "clock"), "ccremove": ("explains", "clock"),
+         "ktutil": ("explains", "clock"), "klist_silent": ("clock",), "klist_overview": ("explains", "clock")}
 READING = ("ktedit", "ccedit", "ktutil")
 OTHERS = {"list": "klist_overview", "silent": "klist_silent"}
 
@@ -107,5 +105,4 @@ def row_of(name: str, case: Case) -> str:
     left = f"those ({listed([text(it.encode()) for it in names])}) ({term_of(case)})"
     ending = f"{text(wanted.err)}, {wanted.status}, {images(names, after)})"
     proof = proof_of(wanted.out, "(", f", {ending}")
-    return (f"pub {name} : {left}\n    ≡ ({text(wanted.out)}, {ending}\n"
-            f"unfolding on_literals\n{name} = {proof}\n")
+    return f"pub {name} : {left}\n    ≡ ({text(wanted.out)}, {ending}\nunfolding on_literals\n{name} = {proof}\n"

@@ -3,7 +3,6 @@ JSON. Random checks show the rest."""
 
 import json
 import os
-import re
 from dataclasses import replace
 
 from keytabs.listings import KEY_SIZES
@@ -47,43 +46,15 @@ OBJECTS = """{"file":"k","mode":"644","entries":3,"free":0,"holes":0,"findings":
 {"file":"/dev/stdin","mode":null,"entries":2,"free":0,"holes":0,"findings":[],"fault":{"kind":1,"place":98},"status":1}
 """
 
-# A line of a finding.
-LINE = re.compile(rb"(\w+)(?: (\d+)(?: (\d+))? kvno (\d+) etype (\d+))?(?: (.*))?", re.DOTALL)
-
 # Keys as long as their type's, a byte shorter and longer. The last three types have no length.
 SIZED = [Entry((b"%d" % size,), enctype=etype, key=bytes(size))
          for etype, due in {**KEY_SIZES, 0: 5, 3: 8, 99: 16}.items() for size in (due - 1, due, due + 1)]
 
 
-def of_json(**members: object) -> bytes:
-    """Returns an object of JSON on a line."""
-    return json.dumps(members, ensure_ascii=False, separators=(",", ":")).encode() + b"\n"
-
-
-def finding_of(line: bytes) -> dict[str, object]:
-    """Returns the members of a finding. A name that is not UTF-8 is in hexadecimal."""
-    word, *numbers, name = LINE.fullmatch(line).groups()
-    found = {"finding": word.decode()}
-    found |= {key: int(it) for key, it in zip(("place", "first", "kvno", "etype"), numbers) if it}
-    try:
-        return found | ({"principal": name.decode()} if name and word != b"mode" else {})
-    except UnicodeDecodeError:
-        return found | {"principal_hex": name.hex()}
-
-
-def as_json(name: str, mode: str | None, lines: bytes, status: int) -> bytes:
-    """Returns the object of a file with those lines."""
-    *findings, counts = lines[:-1].split(b"\n")
-    fault = findings.pop() if findings and findings[-1].startswith(b"fault ") else b""
-    counts, fault = (map(int, re.findall(rb"\d+", it)) for it in (counts, fault))
-    return of_json(file=name, mode=mode, **dict(zip(("entries", "free", "holes"), counts)),
-                   findings=[*map(finding_of, findings)], fault=dict(zip(("kind", "place"), fault)) or None,
-                   status=status)
-
-
 def unchecked(name: str, message: str, status: int) -> bytes:
     """Returns the object of a file that is missing, refused or not read, by the message about it."""
-    return of_json(file=name, error=message.removeprefix(f"{name}: "), status=status)
+    members = {"file": name, "error": message.removeprefix(f"{name}: "), "status": status}
+    return json.dumps(members, ensure_ascii=False, separators=(",", ":")).encode() + b"\n"
 
 
 def found(name: str, entries: list[Entry], *lines: str) -> Case:

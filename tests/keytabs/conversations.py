@@ -12,7 +12,7 @@ from collections.abc import Callable
 
 from keytabs.ktutil_lines import NO_SLOTS, TWO_LISTED
 from makers.images import TWO
-from runs.harness import SECONDS, Outcome, Report, differences, folder_of, message, short, text
+from runs.harness import SECONDS, Outcome, Report, differences, folder_of, piped, short, text
 
 BREAKS = ("crates/krb_ktutil", "crates/krb_files/src/reader.rt", "crates/krb_files/src/watched.rt")
 
@@ -48,22 +48,14 @@ def heard_from(stream, count: int, seconds: float = SECONDS) -> bytes:
     return heard
 
 
-def started(program: str, folder: str, stdin: int) -> subprocess.Popen[bytes]:
-    """Starts ktutil with that input."""
-    try:
-        return subprocess.Popen([program, "ktutil"], cwd=folder, stdin=stdin, stdout=subprocess.PIPE,
-                                stderr=subprocess.PIPE, bufsize=0)
-    finally:
-        os.close(stdin)
-
-
 def faults_of_talk(program: str, opened: Callable[[], tuple[int, int]], lines: list[tuple[bytes, bytes]], last: bytes,
                    wanted: Outcome, is_stopped: bool) -> list[str]:
     """Returns the faults of a run whose input is left open: what comes of each line, or nothing for a while, before the
     next is sent, and its end by some last bytes, or by the end of the input."""
     theirs, ours = opened()
     found: list[str] = []
-    with folder_of({"k": TWO}) as folder, started(program, folder, theirs) as talk:
+    with folder_of({"k": TWO}) as folder, piped(program, ("ktutil",), folder, stdin=theirs, bufsize=0) as talk:
+        os.close(theirs)
         for sent, due in lines:
             if is_stopped:
                 stop(talk.pid)
@@ -101,16 +93,6 @@ TALKS = {"up to quit": (os.pipe, LINES, b"q\n", Outcome(1), False),
 
 
 def check(report: Report, program: str) -> None:
-    """Makes each talk, and closes the reader of an output: the run ends at once, though its input is still open."""
+    """Makes each talk."""
     for name, talk in TALKS.items():
         report.check(f"ktutil answers line by line, {name}", faults_of_talk(program, *talk))
-    theirs, ours = os.pipe()
-    with folder_of({}) as folder, started(program, folder, theirs) as run:
-        os.write(ours, b"l\n")
-        heard = heard_from(run.stdout, len(NO_SLOTS))
-        run.stdout.close()
-        os.write(ours, b"l\n")
-        got = Outcome(run.wait(SECONDS), heard, run.stderr.read())
-    os.close(ours)
-    wanted = Outcome(3, NO_SLOTS, message(3, "cannot write output").err)
-    report.compare("ktutil answers line by line, until nobody listens", wanted, got)

@@ -15,10 +15,8 @@ BREAKS = ("crates/krb_editors/src/ktcopy.rt", "crates/krb_editors/src/ktdiff.rt"
 
 X, Y = "kvno 3 etype 17 host/a@R", "kvno 3 etype 17 b@R"
 
-# Entries that are as that of b@R, with other keys.
+# Entries that are as that of b@R, with other keys, and a name whose count of components version 1 cannot hold.
 OTHER, THIRD = replace(B, key=bytes(16)), replace(B, key=b"\xff" * 16)
-
-# A name that version 1 cannot hold: its count of components would have 17 bits.
 LONG = Entry((b"",) * 65_535)
 
 
@@ -34,10 +32,8 @@ def copy(name: str, options: str, source: bytes | None, target: bytes | None, wa
                 files if after is None else {**files, "t": after})
 
 
-# What is left of the greatest keytab beside a record of b@R.
+# What is left of the greatest keytab beside a record of b@R. Files that are no sound keytabs, each with its message.
 ROOM = LIMIT - 2 - 45 - 4
-
-# Files that are no sound keytabs, and the message about each.
 UNSOUND = {b"xy": "not a keytab (2)", TWO[:-1]: "refused 1"}
 
 
@@ -111,8 +107,7 @@ CASES += [
     copy("another key of the new name", "-p b@R --as c@R", TWO, keytab(B, replace(C, key=b"")),
          printed("clash 53 47 kvno 3 etype 17 c@R", status=1)),
     # Which keys two keytabs do not share: not by order, times, name types and doubles.
-    diff("", TWO, keytab(OTHER), f"- 2 {X}", f"! 53 2 {Y}"),
-    diff("", keytab(OTHER), TWO, f"! 2 53 {Y}", f"+ 2 {X}"),
+    diff("", TWO, keytab(OTHER), f"- 2 {X}", f"! 53 2 {Y}"), diff("", keytab(OTHER), TWO, f"! 2 53 {Y}", f"+ 2 {X}"),
     diff("", keytab(C, HOST, OTHER, HOST), keytab(AES256, FIVE, B), "- 2 kvno 3 etype 17 c@R", f"- 47 {X}",
          f"! 98 {len(keytab(AES256, FIVE))} {Y}", f"+ {line_of(AES256)}", f"+ {line_of(FIVE, AES256)}"),
     diff("", keytab(OTHER, B), keytab(9, B), f"! 2 15 {Y}"), diff("", keytab(9, B), keytab(B, OTHER), f"! 15 2 {Y}"),

@@ -43,10 +43,8 @@ FAULTS = LINE_FAULTS | by_line({
     "add x y z 0 b": 3, "add 3 y z 0 b": 4, "add 3 17 z 0 b": 3, "add 3 17 0 0 b": 5,
 }
 
-# A bad entry between two good ones.
+# A bad entry between two good ones, and one of the most components, all empty.
 DAMAGED = keytab(HOST, record(bytes(10)), B)
-
-# An entry of the most components, all empty.
 MOST = keytab(Entry((b"",) * 65_535))
 
 

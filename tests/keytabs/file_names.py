@@ -1,7 +1,6 @@
 """Which file is read: names of all kinds, files that cannot be read, and the greatest size."""
 
 import os
-import subprocess
 from functools import partial
 
 from keytabs.listings import B_LINE, HOST_LINE, listed
@@ -10,11 +9,8 @@ from runs.harness import Case, Outcome, Report, folder_of, message, over, run
 
 BREAKS = ("crates/krb_disk/src/read.rt", "crates/krb_driver/src/loading.rt", "crates/krb_driver/src/opening.rt")
 
-# The greatest size of a file that is read.
-LIMIT = 16_777_216
-
-# A user who may not read root's files.
-NOBODY = 65_534
+# The greatest size of a file that is read, and a user who may not read root's files.
+LIMIT, NOBODY = 16_777_216, 65_534
 
 # Each is taken and printed as it is given.
 NAMES = ["./k", "two words", "schlüssel-ключ-鍵", "-k", "-", "a:b", "new\nline", "x" * 255]
@@ -43,29 +39,14 @@ CASES = [
 ]
 
 
-def check_pipe(report: Report, program: str) -> None:
-    """Checks that a keytab that arrives in pieces through a pipe is read to its end."""
-    pieces = "exec >k; printf '\\005'; sleep 0.1; printf '\\002\\377'; sleep 0.1; printf '\\377'"
-    with folder_of({}) as folder:
-        os.mkfifo(os.path.join(folder, "k"))
-        with subprocess.Popen(["sh", "-c", pieces], cwd=folder):
-            got = run(program, ("klist", "-k", "k"), folder)
-    report.compare("a pipe in place of a file", Outcome(1, listed(b"fault 1 at 2")), got)
-
-
-def check_unreadable(report: Report, program: str, option: str, image: bytes, wanted: Outcome) -> None:
+def check(report: Report, program: str) -> None:
     """Checks a file that may not be read. Root can read every file, so root has another user run the program."""
     options = {"user": NOBODY, "group": NOBODY, "extra_groups": []} if os.geteuid() == 0 else {}
-    with folder_of({"k": image}) as folder:
+    with folder_of({"k": TWO}) as folder:
         os.chmod(folder, 0o755)
         os.chmod(os.path.join(folder, "k"), 0)
         try:
-            report.compare("an unreadable file", wanted, run(program, ("klist", option, "k"), folder, **options))
+            got = run(program, ("klist", "-k", "k"), folder, **options)
+            report.compare("an unreadable file", message(3, "k: cannot read"), got)
         except PermissionError:
             report.skip("an unreadable file", "none but root may start the program")
-
-
-def check(report: Report, program: str) -> None:
-    """Checks files that are not in a table."""
-    check_pipe(report, program)
-    check_unreadable(report, program, "-k", TWO, message(3, "k: cannot read"))

@@ -55,7 +55,6 @@ FAULTS = by_line({
 
 # Key lines that are refused for an entry of enctype 17.
 NO_KEYS = "", " \t", "-", "0" * 30, "0" * 34, "0" * 31, "0x" + "0" * 30, "0" * 30 + "0g", KEY + " 0", "q", "l"
-
 FILES = {"k": TWO}
 
 CASES = [

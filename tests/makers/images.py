@@ -6,19 +6,18 @@ entry. Numbers are big-endian in version 2, and in the byte order of the writer 
 
 A cache is the byte 5, a version, in version 4 a header, the default principal, and then credentials
 up to the end of the file: nothing counts or frames them. All numbers are big-endian. A header is a
-16-bit length and fields, each a 16-bit tag, a 16-bit length and a value. The cache of most cases is last.
+16-bit length and fields, each a 16-bit tag, a 16-bit length and a value. Tickets in DER (RFC 4120 5.3) are last.
 """
 from __future__ import annotations
 
+from collections.abc import Callable
 from dataclasses import dataclass, replace
 
 BIG = "big"
 LITTLE = "little"
 
-# The length that ends the file.
+# The length that ends the file, and the bytes that are special in the text of a name.
 END = bytes(4)
-
-# The bytes that are special in the text of a name.
 SPECIAL = {47: b"\\/", 64: b"\\@", 92: b"\\\\", 10: b"\\n", 9: b"\\t", 8: b"\\b", 0: b"\\0"}
 
 
@@ -86,7 +85,6 @@ def hole(data: bytes, order: str = BIG) -> bytes:
 
 def keytab(*parts: Entry | int | bytes, version: int = 2, order: str = BIG) -> bytes:
     """Returns a keytab of entries, of holes of zeros given by their sizes, and of other bytes."""
-
     def spelled(part: Entry | int | bytes) -> bytes:
         if isinstance(part, Entry):
             return record(part.spelled(version, order), order)
@@ -103,11 +101,9 @@ def old(*parts: Entry | int | bytes, order: str = LITTLE) -> bytes:
 # The keytab of most cases: 98 bytes, with an entry at 2 and one at 53.
 TWO = keytab(HOST, B)
 
-# The realm and the first component of the server of a configuration entry.
+# The realm and the first component of the server of a configuration entry, and the times that mark one as removed.
 CONFIG_REALM = b"X-CACHECONF:"
 CONFIG_FIRST = b"krb5_ccache_conf_data"
-
-# The two times that mark a credential as removed.
 REMOVED = {"authtime": 2**32 - 1, "endtime": 0}
 
 # The letters of a ticket's flags, in the order in which they are printed.
@@ -165,8 +161,7 @@ class Credential:
         """Returns the credential's bytes."""
         parts = [self.client.spelled(), self.server.spelled(), number(self.enctype, 2)]
         if version == 3:
-            second = self.enctype if self.second_enctype is None else self.second_enctype
-            parts.append(number(second, 2))
+            parts.append(number(self.enctype if self.second_enctype is None else self.second_enctype, 2))
         times = (self.authtime, self.starttime, self.endtime, self.renew_till)
         parts += [counted32(self.key), *(number(time, 4) for time in times)]
         parts += [number(self.is_skey, 1), number(self.flags, 4), typed_list(self.addresses), typed_list(self.authdata)]
@@ -184,8 +179,7 @@ def counted32(data: bytes) -> bytes:
 
 def typed_list(those: tuple[Typed, ...]) -> bytes:
     """Returns a 32-bit count, and each item as its 16-bit type and its data."""
-    spelled = (number(kind, 2) + counted32(data) for kind, data in those)
-    return number(len(those), 4) + b"".join(spelled)
+    return number(len(those), 4) + b"".join(number(kind, 2) + counted32(data) for kind, data in those)
 
 
 def config(key: bytes, value: bytes, principal: bytes | None = None, client: Name = U) -> Credential:
@@ -202,8 +196,7 @@ def header_field(tag: int, value: bytes) -> bytes:
 
 def offset(seconds: int, micros: int) -> bytes:
     """Returns the header's field with the KDC's time offset."""
-    parts = (value.to_bytes(4, "big", signed=True) for value in (seconds, micros))
-    return header_field(1, b"".join(parts))
+    return header_field(1, b"".join(value.to_bytes(4, "big", signed=True) for value in (seconds, micros)))
 
 
 def cache(*cells: Credential | bytes, default: Name = U, fields: bytes = b"", version: int = 4) -> bytes:
@@ -230,3 +223,37 @@ def config_ticket(*after: bytes, first: bytes = CONFIG_FIRST, realm: bytes = CON
                   name_type: int = 1, **changed) -> Credential:
     """Returns the ticket with the server of a configuration entry: a first component, and those after it."""
     return replace(TICKET, server=Name((first, *after), realm, name_type), **changed)
+
+
+def element(tag: int, content: bytes, is_longer: bool = False) -> bytes:
+    """Returns an element, with its length in its shortest form, or in the next that is longer."""
+    size = len(content)
+    if size < 128 and not is_longer:
+        return bytes([tag, size]) + content
+    digits = size.to_bytes((size.bit_length() + 7) // 8 + (is_longer and size > 127), "big")
+    return bytes([tag, 128 + len(digits)]) + digits + content
+
+
+def integer(number: int) -> bytes:
+    """Returns the content of an INTEGER."""
+    return number.to_bytes((number if number >= 0 else ~number).bit_length() // 8 + 1, "big", signed=True)
+
+
+def encrypted(etype: bytes, kvno: bytes | None = None, cipher: bytes = b"cipher") -> bytes:
+    """Returns the fields of an EncryptedData. The first are INTEGERs with these contents."""
+    numbers = (element(0xA0 + at, element(2, it)) for at, it in enumerate((etype, kvno)) if it is not None)
+    return b"".join((*numbers, element(0xA2, element(4, cipher))))
+
+
+# The first fields of a ticket: its version, its realm and its service.
+TICKET_VERSION = bytes.fromhex("a003020105")
+TICKET_FIELDS = TICKET_VERSION + bytes.fromhex("a1031b0152 a2163014 a003020102 a10d300b 1b066b7262746774 1b0152")
+
+
+def ticket(data: bytes, fields: bytes = TICKET_FIELDS, at: int = -1,
+           odd: Callable[[int, bytes], bytes] = element) -> bytes:
+    """Returns a ticket of those fields. Of the four elements around those of its EncryptedData that number `at` from
+    within is made by `odd`."""
+    for level, (tag, front) in enumerate(((0x30, b""), (0xA3, b""), (0x30, fields), (0x61, b""))):
+        data = (odd if level == at else element)(tag, front + data)
+    return data

@@ -5,19 +5,19 @@ from dataclasses import replace
 from random import Random
 
 from keytabs.listings import NAMES
-from makers.images import (CONFIG_FIRST, CONFIG_REALM, FLAGS, Credential, Name, cache, config, header_field, number,
-                           offset)
-from makers.mutations import damaged, mutated
-from makers.random_keytabs import random_bytes
-from makers.tickets import random_ticket
+from makers.images import (CONFIG_FIRST, CONFIG_REALM, FLAGS, Credential, Name, cache, config, encrypted, header_field,
+                           integer, number, offset, ticket)
+from makers.random_keytabs import damaged, mutated, random_bytes
 from peers import corpus
 
-# Caches of other programs.
+# Caches of other programs. Few keys and principals, so that many values replace others.
 SAMPLES = corpus.images("ccache")
-
-# Few keys and principals, so that many values replace others.
 KEYS = [b"k", b"l", b"pa_type", b"\\x00", b"\x00", b"-"]
 PRINCIPALS = [b"-", b"-", b"krbtgt/R@R", b"a@R", b"\\a@R", b"\xff@"]
+
+# What tickets in DER have.
+ETYPES = (17, 18, 19, 20, 23, 25, 26, 16, 0, -1, 65_535, 65_536, -2**31, 2**31 - 1)
+KVNOS = (None, None, 0, 1, 2, 127, 128, 255, 2**31 - 1, 2**31, 2**32 - 1, -1, -2**31)
 
 
 def random_number(random: Random, bits: int) -> int:
@@ -32,15 +32,13 @@ def random_name(random: Random, may_be_config: bool = True) -> Name:
     if may_be_config and random.random() < 0.4:
         realm = random.choice([CONFIG_REALM] * 8 + [CONFIG_REALM[:-1], b"X-RMED-CONF:"])
         first = random.choice([CONFIG_FIRST] * 8 + [CONFIG_FIRST + b"x"])
-        more = random.choice([1, 1, 2, 2, 2, 0, 3])
-        parts = [first, *(random.randbytes(random.randrange(5)) for _ in range(more))]
+        parts = [first, *(random.randbytes(random.randrange(5)) for _ in range(random.choice([1, 1, 2, 2, 2, 0, 3])))]
     return Name(tuple(parts), realm, random_number(random, 32))
 
 
 def random_list(random: Random) -> tuple[tuple[int, bytes], ...]:
     """Returns addresses, or elements of authorization data; mostly none."""
-    count = random.choice([0, 0, 0, 1, 2, 5])
-    return tuple((random.randrange(2**16), random_bytes(random, 9)) for _ in range(count))
+    return tuple((random.randrange(2**16), random_bytes(random, 9)) for _ in range(random.choice([0, 0, 0, 1, 2, 5])))
 
 
 def random_times(random: Random) -> dict[str, int]:
@@ -50,6 +48,14 @@ def random_times(random: Random) -> dict[str, int]:
         times[0] = random.choice([2**32 - 1] * 4 + [0, 2**32 - 2])
         times[2] = random.choice([0] * 4 + [1])
     return dict(zip(("authtime", "starttime", "endtime", "renew_till"), times, strict=True))
+
+
+def random_ticket(random: Random) -> bytes:
+    """Returns a ticket in DER, sometimes damaged."""
+    kvno = random.choice(KVNOS)
+    made = ticket(encrypted(integer(random.choice(ETYPES)), None if kvno is None else integer(kvno),
+                            bytes(random.choice([0, 20, 60, 110, 300]))))
+    return damaged(random, made, made) if random.random() < 0.5 else made
 
 
 def random_credential(random: Random) -> Credential:
@@ -63,8 +69,7 @@ def random_credential(random: Random) -> Credential:
         flags=random.choice([0, 2**32 - 1, one_flag, random.randrange(2**32)]),
         addresses=random_list(random), authdata=random_list(random),
         ticket=random.choice([random_ticket(random), random.randbytes(random.choice([0, 1, 3, 20, 300]))]),
-        second_ticket=random_bytes(random, 12),
-        **random_times(random),
+        second_ticket=random_bytes(random, 12), **random_times(random),
     )
 
 

@@ -1,12 +1,10 @@
 """The files of the examples in README and the manual page."""
 
-from contextlib import contextmanager
 from dataclasses import replace
 from pathlib import Path
 
-from makers.images import B, HOST, PA_TYPE, TICKET, TWO, Credential, Entry, Name, cache, keytab, old
-from makers.tickets import encrypted, integer, ticket
-from runs.harness import folder_of
+from makers.images import (B, HOST, PA_TYPE, TICKET, TWO, Credential, Entry, Name, cache, encrypted, integer, keytab,
+                           old, ticket)
 
 REALM = b"EXAMPLE.ORG"
 ALICE = Name((b"alice",), REALM)
@@ -33,15 +31,11 @@ SAMPLES = {
     "next.keytab": keytab(key_of(b"host", 4, 18), key_of(b"host", 4, 17)),
     "alice.ccache": cache(ticket_of(b"krbtgt", REALM, 1, 18, 1_709_239_400),
                           ticket_of(b"HTTP", b"www.example.org", 2, 23), default=ALICE),
-    "host.keytab": TWO,
-    "backup.keytab": TWO,
+    "host.keytab": TWO, "backup.keytab": TWO,
     "other.keytab": keytab(Entry((b"nfs", b"a"), version8=5, enctype=18, key=bytes(32), version32=5)),
-    "rotated.keytab": keytab(HOST, Entry(version8=5, version32=5), B),
-    "twice.keytab": keytab(HOST, HOST),
-    "mixed.keytab": keytab(HOST, replace(B, enctype=23)),
-    "damaged.keytab": keytab(HOST, CUT),
-    "old.keytab": old(41, HOST, B),
-    "krb5cc_0": cache(replace(TICKET, renew_till=1_700_604_800), PA_TYPE),
+    "rotated.keytab": keytab(HOST, Entry(version8=5, version32=5), B), "twice.keytab": keytab(HOST, HOST),
+    "mixed.keytab": keytab(HOST, replace(B, enctype=23)), "damaged.keytab": keytab(HOST, CUT),
+    "old.keytab": old(41, HOST, B), "krb5cc_0": cache(replace(TICKET, renew_till=1_700_604_800), PA_TYPE),
     # The ticket of host/a@R has expired; the other will not for a long time.
     "krb5cc_1": cache(replace(TICKET, endtime=2**32 - 1),
                       replace(TICKET, server=Name((b"host", b"a"))), PA_TYPE),
@@ -54,11 +48,3 @@ def make(folder: str) -> None:
         path = Path(folder, name)
         path.write_bytes(data)
         path.chmod(0o600)
-
-
-@contextmanager
-def folder_of_samples():
-    """Yields a folder with the files."""
-    with folder_of({}) as folder:
-        make(folder)
-        yield folder

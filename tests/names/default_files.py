@@ -4,7 +4,7 @@ reports of a run, and for other users. What is wrong with a line comes first."""
 import os
 import shutil
 from collections.abc import Callable, Iterator
-from contextlib import contextmanager
+from contextlib import ExitStack, contextmanager
 from itertools import product
 
 from keytabs.file_names import NOBODY
@@ -27,10 +27,9 @@ KEYTAB = FileName("/etc/krb5.keytab", source=DEFAULT)
 USER = 4_000_123_456
 OWN = "/tmp/krb5cc_{}"
 
-# What the system reports of a process: the first number is that of the real user.
+# What the system reports of a process: the first number is that of the real user. And texts that have none: no bytes,
+# no such line, or no number in it.
 OF_USER = "Name:\tUid:\nUmask:\t0022\nTgid:\t5\nUid:\t{}\t0\t7\t8\nGid:\t9\t9\t9\t9\n"
-
-# What no number can be had of: a text of no bytes, without the line, or without a number in it.
 UNKNOWN = (b"", b"Uid:\n", b"Uid:\tx\t0\t0\t0\n", b"xUid:\t5\t5\t5\t5\n")
 
 # Environments in which the default is taken: none, an empty value, and a value for the other kind.
@@ -53,19 +52,6 @@ CASES = [
         ("klist --for 3", "--for goes with -s alone"), ("ktcheck --allow", "--allow needs a value"),
         ("ktedit", "no FILE"), ("ktcopy k", "no TO"))),
 ]
-
-
-@contextmanager
-def own_cache(user: int, image: bytes | None) -> Iterator[None]:
-    """Makes the cache of a user meanwhile, or none."""
-    path = OWN.format(user)
-    if image is not None:
-        write(path, image)
-    try:
-        yield
-    finally:
-        if image is not None:
-            os.remove(path)
 
 
 @contextmanager
@@ -96,7 +82,10 @@ def check_defaults(report: Report, program: str) -> None:
         (USER, CACHE), (USER, NEITHER), (2**32 - 2, None))]
     for name, user, keytab, own in rows:
         kind = Kind.KEYTAB if name is KEYTAB else Kind.CACHE
-        with other_system(report, program, keytab, OF_USER.format(user).encode()) as compare, own_cache(user, own):
+        with other_system(report, program, keytab, OF_USER.format(user).encode()) as compare, ExitStack() as meanwhile:
+            if own is not None:
+                write(name.text, own)
+                meanwhile.callback(os.remove, name.text)
             for command, env in product(DEFAULTS, UNNAMED[kind]):
                 if command.kind is kind:
                     compare(command.row(name, keytab or own, None, {}, env))

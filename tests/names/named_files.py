@@ -73,10 +73,8 @@ NEITHER = b"x\0"
 NEITHERS = {(Kind.KEYTAB,): ("keytab", *BEGINS_AS_NO_KEYTAB), (Kind.CACHE,): ("cache", *BEGINS_AS_NO_CACHE),
             (*Kind,): ("cache", *SHOWN_AS_NEITHER)}
 
-# A file of each kind; its ticket is valid whenever a test runs.
+# A file of each kind; its ticket is always valid. The name whose place others take, and that of the file beside it.
 IMAGES = {Kind.KEYTAB: TWO, Kind.CACHE: VALID}
-
-# The name whose place others take, and that of the file beside it.
 NAME, BESIDE = "<name>", "from"
 
 

@@ -4,12 +4,11 @@ allowed, JSON, and what ends the run."""
 import os
 from dataclasses import replace
 
-from keytabs.checks import as_json
 from keytabs.removals import FIVE
 from makers.images import B, HOST, TWO, hole, keytab
 from names.named_files import NEITHER
-from runs.harness import Line, shown, text, words_of
-from words.explaining import FAILED, FULL, Explained, Output
+from runs.harness import Line, text
+from words.explaining import FAILED, FULL, Explained, Output, over_files
 from words.phrases import BEGINS_AS_NO_KEYTAB, CAUSES, FAULTS, FINDINGS, HINTS, NOT_READ
 
 BREAKS = ("crates/krb_driver/src/several.rt", "crates/krb_readers/src/ktcheck")
@@ -44,11 +43,9 @@ def set_modes(folder: str) -> None:
         os.chmod(os.path.join(folder, name), 0o644 if name == "all" else 0o600)
 
 
-def check_up(line: str | Line, out: list[str], *output: tuple[str, str], status: int = 0, **more) -> Explained:
+def check_up(line: str | Line, out: list[str], *output: tuple[str, str], **more) -> Explained:
     """Returns a run of ktcheck over some of the files, its output and its messages."""
-    words = ("ktcheck", *words_of(line))
-    return Explained(shown(words), words, output, FILES, status=status, out=text(out), setting=set_modes, after=FILES,
-                     **more)
+    return over_files("ktcheck", line, FILES, text(out), *output, setting=set_modes, **more)
 
 
 def labelled(**those: list[str]) -> list[str]:
@@ -93,8 +90,10 @@ CASES = [
     check_up("-q --allow weak o w all d n", labelled(all=COUNTED, d=BROKEN, n=["empty", EMPTY]),
              *words("all", "hidden", "same", "clash", "mode", "size"), *fault("d"), *words("n", "empty"), status=1),
     check_up("-q -H --allow empty --allow missing --want c@R n", []),
-    check_up("-q --json --allow weak o w all", [as_json("all", "644", text(ALL), 1).decode()[:-1]],
-             *words("all", "hidden", "same", "clash", "mode", "size"), status=1),
+    check_up("-q --json --allow weak --want b@R k w o", [
+        '{"file":"o","mode":"600","entries":2,"free":0,"holes":0,"findings":[{"finding":"old","place":2,"kvno":3,'
+        '"etype":17,"principal":"host/a@R"},{"finding":"missing","principal":"b@R"}],"fault":null,"status":1}'],
+             *words("o", "missing"), status=1),
     # What is allowed has its lines, and only other findings count for the status.
     *(check_up(" ".join(["--older 1 --want c@R all", *(f"--allow {it}" for it in FINDINGS if it != counted)]), ASKED,
                *words("all", *IN_ALL), status=int(counted not in ("", "old"))) for counted in ("", *IN_ALL)),

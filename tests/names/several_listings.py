@@ -9,8 +9,8 @@ from keytabs.file_names import LIMIT
 from keytabs.listings import B_LINE, HOST_LINE, listed
 from makers.images import B, HOST, TWO, USUAL, cache, keytab
 from names.several_keytabs import MISSING, OTHER, UNREAD, fault
-from runs.harness import Line, shown, words_of
-from words.explaining import FAILED, FULL, Explained, no_keytab
+from runs.harness import Line
+from words.explaining import FAILED, FULL, Explained, no_keytab, over_files
 from words.phrases import BEGINS_AS_KEYTAB, CAUSES, COLLECTION, LARGE, LISTED_AS_KEYTAB
 
 BREAKS = ("crates/krb_driver/src/several.rt", "crates/krb_readers/src/klist.rt")
@@ -25,12 +25,10 @@ N_JSON = b'{"file":"n","kind":"keytab","version":2,"entries":[],"fault":null}\n'
 E_JSON = b'{"file":"e","kind":"ccache","version":4,"default_principal":"u@R","tickets":[],"config":[],"fault":null}\n'
 
 
-def list_all(line: str | Line, out: list[bytes], *output: tuple[str, str], status: int = 0,
-             files: dict[str, bytes] | None = None, **more) -> Explained:
+def list_all(line: str | Line, out: list[bytes], *output: tuple[str, str], files: dict[str, bytes] = FILES,
+             **more) -> Explained:
     """Returns a listing of some of the files, with an empty line between them, and its messages."""
-    words = ("klist", *words_of(line))
-    return Explained(shown(words), words, output, files or FILES, status=status, out=b"\n".join(out),
-                     after=files or FILES, **more)
+    return over_files("klist", line, files, b"\n".join(out), *output, **more)
 
 
 CASES = [

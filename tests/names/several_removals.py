@@ -1,8 +1,6 @@
 """`ktremove` and `ccremove` over several files: each line after the name of its file, what is said of others, and what
 where one is missing, or nothing is asked for."""
 
-import os
-
 from collections.abc import Iterable
 from dataclasses import replace
 
@@ -11,8 +9,8 @@ from keytabs.removals import FIVE
 from makers.images import B, HOST, OFFSET, PA_TYPE, TWO, VERSION_3, cache, keytab
 from names.named_files import NEITHER
 from names.several_keytabs import MISSING, NO_KEYTAB, OTHER, UNREAD
-from runs.harness import Line, shown, text, words_of
-from words.explaining import FAILED, FULL, Explained, in_the_way
+from runs.harness import Line, text
+from words.explaining import FAILED, FULL, Explained, in_the_way, link, over_files
 from words.phrases import CAUSES, TO_NAME, code
 
 BREAKS = ("crates/krb_driver/src/several.rt", "crates/krb_editors/src/missing_files.rt",
@@ -31,27 +29,19 @@ B_K, B_J = "k: removed 53 kvno 3 etype 17 b@R", "j: removed 2 kvno 3 etype 17 b@
 X_O = "o: removed 2 kvno 3 etype 17 host/a@R"
 TGT_C, HOST_C, HOST_H = "c: removed 34 krbtgt/R@R", "c: removed 278 host/a@R", "h: removed 22 host/a@R"
 
-# What is said where nothing is asked for, and of files that cannot be asked.
+# What is said where nothing is asked for, of files that cannot be asked, and of a principal in the place of a file.
 NO_ENTRY, NO_TICKET = (("refused 9", code(9, command)) for command in ("ktremove", "ccremove"))
 DAMAGED, OLD_CACHE = ("d: refused 1", code(1, "ktremove")), ("v: refused 8", code(8, "ccremove"))
 UNSAVED = ("k: cannot write", CAUSES["in the way"].replace("NAME", "k"))
-
-# A principal in the place of a file; and a name of another type.
 NAMED, OTHER_NAMED = ("host/a@R: no such file", TO_NAME), ("KCM:u@R: no such file", OTHER[1])
 
 
-def link_to_nothing(folder: str) -> None:
-    """Makes a link that leads to nothing."""
-    os.symlink("no", os.path.join(folder, "l"))
-
-
-def remove(line: str | Line, out: list[str], *output: tuple[str, str], status: int = 0,
-           left: dict[str, bytes] | Iterable[str] = (), **more) -> Explained:
+def remove(line: str | Line, out: list[str], *output: tuple[str, str], left: dict[str, bytes] | Iterable[str] = (),
+           **more) -> Explained:
     """Returns a run over some of the files, its lines and messages, and the files that it changes: those of GONE of
     these names, or others."""
-    words = words_of(line)
     changed = left if isinstance(left, dict) else {name: GONE[name] for name in left}
-    return Explained(shown(words), words, output, FILES, status=status, out=text(out), after=FILES | changed, **more)
+    return over_files("", line, FILES, text(out), *output, after=FILES | changed, **more)
 
 
 CASES = [
@@ -73,7 +63,7 @@ CASES = [
     remove("ktremove -k old o k/a@R", [], ("k/a@R: no such file", TO_NAME), status=1),
     remove(("ktremove", "-pb@R", "no", "k", "KCM:u@R", ".", "", "d", "KCM:k"), [], MISSING, (*OTHER_NAMED, TO_NAME),
            (": no such file", ""), OTHER, status=1),
-    replace(remove("ktremove --in-place -p b@R k l", [], ("l: no such file", ""), status=1, setting=link_to_nothing),
+    replace(remove("ktremove --in-place -p b@R k l", [], ("l: no such file", ""), status=1, setting=link("no")),
             after=None),
     remove("ktremove -p b@R no k j", [], MISSING, status=1, options=FULL),
     # It is said last that nothing is asked for anywhere, unless no file could be asked.

@@ -5,9 +5,9 @@ from functools import partial
 
 from makers.images import B, PA_TYPE, TICKET, Entry, Name, cache, keytab
 from names.several_keytabs import MISSING, UNREAD
-from runs.harness import Case, Line, Outcome, Report, shown, words_of
+from runs.harness import Case, Line, Outcome, Report
 from runs.system_calls import preloaded
-from words.explaining import FAILED, FULL, Explained, no_keytab
+from words.explaining import FAILED, FULL, Explained, no_keytab, over_files
 from words.phrases import BAD_DEFAULT, COLLECTION, FAULTS, NOT_READ, SHORT, SHOWN_AS_NEITHER
 
 BREAKS = ("crates/krb_readers/src/show", "crates/krb_readers/src/show.rt", "crates/krb_show")
@@ -76,11 +76,9 @@ NONE, E, D = "keytab, 0 keys of 0 principals\n", "e: cache of u@R, 0 tickets\n",
 TYPED = ("KCM:k: no such file", NOT_READ.replace("TYPE", "KCM:"))
 
 
-def show(line: str | Line, blocks: list[str], *output: tuple[str, str], status: int = 0, **more) -> Explained:
+def show(line: str | Line, blocks: list[str], *output: tuple[str, str], **more) -> Explained:
     """Returns a view of some of the files, with an empty line between them, and its messages."""
-    words = ("show", *words_of(line))
-    return Explained(shown(words), words, output, FILES, status=status, out="\n".join(blocks).encode(), after=FILES,
-                     **more)
+    return over_files("show", line, FILES, "\n".join(blocks).encode(), *output, **more)
 
 
 CASES = [

@@ -9,10 +9,8 @@ from runs.harness import TOP, Report
 
 BREAKS = ("crates/*/CALLING.md", "crates/library_tests")
 
-# Crates whose calls are on the page of another.
+# Crates whose calls are on the page of another; and an item that may contain functions, or a function up to its body.
 ON_PAGE_OF = {"krb_files": ["krb_disk"]}
-
-# An item that may contain functions, or a function up to its body.
 ITEM = re.compile(r"^(?:pub )?(?:unsafe )?(?:impl(?:<(?:[^<>]|<[^<>]*>)*>)?|(trait)) (\w+)(.*)|"
                   r"^( *)(pub )?(?:const )?fn (\w+)((?s:.*?)(?:;|\s *\{\}?))$", re.MULTILINE)
 

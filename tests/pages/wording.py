@@ -57,8 +57,7 @@ def of_sources() -> Iterator[tuple[str, set[object]]]:
     known = {*phrases.CAUSES.values(), *phrases.AFTERMATHS.values()}
     own = known - {"NAME.krbfile is in the way", "error NUMBER"}
     yield "the phrases of the definitions", defined ^ (files | in_library | numbered | own | {*phrases.NAMES.values()})
-    text = sources("python/krbfile/*.py")
-    found = re.findall(r'(?:errno\.\w+: |NAME_OF_SAVES = )"(.*?)"', text)
+    found = re.findall(r'(?:errno\.\w+: |NAME_OF_SAVES = )"(.*?)"', sources("python/krbfile/*.py"))
     yield "the causes of Python's module", {*found} - known if found else {"none"}
 
 

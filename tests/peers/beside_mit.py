@@ -10,40 +10,32 @@ import subprocess
 from collections.abc import Callable
 from random import Random
 
-from runs.harness import SECONDS, Report, run
+from runs.harness import SECONDS, Report, piped, run
 from theorems import mit_listings
 from theorems.mit_listings import ENTRY, credential_lines, entry_line
 
-# The century of a time, which MIT's programs leave out.
+# The century of a time, which MIT's programs leave out, and the dashes below the heading of a keytab's listing.
 CENTURY = re.compile(r"\b\d\d(?=\d\d-\d\d-\d\dT)")
-
-# The dashes below the heading of a keytab's listing.
 DASHES = re.compile(r"^----[- ]*\n", re.MULTILINE)
 
-# Where a credential begins.
+# Where a credential begins, and a ticket's own enctype, below its first line.
 CREDENTIAL = re.compile(r"^(?! )(?=.)", re.MULTILINE)
-
-# A ticket's own enctype, below its first line.
 TICKET_TYPE = re.compile(r"Etype \(skey, tkt\): [^,]*, ([^\t]*?) *(?:\t|$)")
 
-# The prompt of MIT's ktutil, which it prints into a pipe too.
+# The prompt of MIT's ktutil, which it prints into a pipe too, and how many random cases there are of a kind.
 PROMPT = b"ktutil:  "
-
-# How many random cases there are of a kind.
 SEEDS = 60
 
-# Where they are: those of the KDC may be outside a plain user's path.
+# Where MIT's programs are: those of the KDC may be outside a plain user's path. And their environment, since they need
+# no configuration except in a realm.
 PATHS = os.pathsep.join([os.environ.get("PATH", ""), "/usr/sbin", "/usr/local/sbin"])
-
-# The environment of MIT's programs, which need no configuration except in a realm.
 SURROUNDINGS = {name: value for name, value in os.environ.items() if not name.startswith("KRB5")}
 SURROUNDINGS |= {"KRB5_CONFIG": os.devnull, "PATH": PATHS, "LC_ALL": "C", "TZ": "UTC"}
 
 
 def mit_klist(folder: str, *words: str) -> bytes:
     """Returns the output of MIT's klist."""
-    return subprocess.run(["klist", *words], cwd=folder, env=SURROUNDINGS, capture_output=True, timeout=SECONDS,
-                          check=False).stdout
+    return run("klist", words, folder, env=SURROUNDINGS).out
 
 
 def as_json(program: str, folder: str, *words: str) -> dict:
@@ -109,8 +101,7 @@ class Mit:
         Each request is written only after a prompt. Nothing else may be in the pipe until then:
         a request that reads a line takes all that is there.
         """
-        with subprocess.Popen(["ktutil"], cwd=self.folder, env=self.env, bufsize=0, stdin=subprocess.PIPE,
-                              stdout=subprocess.PIPE, stderr=subprocess.STDOUT) as started:
+        with piped("ktutil", (), self.folder, env=self.env, bufsize=0, stderr=subprocess.STDOUT) as started:
             answers = [self.answer(started)]
             for request in requests:
                 started.stdin.write(request.encode() + b"\n")

@@ -19,7 +19,7 @@ from keytabs.listings import BY_NAME
 from makers.images import Entry, cache, keytab, offset
 from makers.random_caches import random_credential, random_name
 from peers.beside_mit import SURROUNDINGS, Mit, are_there, check_seeds, differences_of, differing_types, lack, mit_klist
-from runs.harness import SECONDS, Check, Outcome, Report, differences, every, files_in, folder_of, run
+from runs.harness import Check, Outcome, Report, differences, every, files_in, folder_of, run
 
 BREAKS = ("crates/krb_ccache", "crates/krb_cache_text")
 
@@ -101,11 +101,10 @@ class Realm:
 
     def call(self, *words: str, folder: str | None = None, version: int = 4, **env: str) -> bytes:
         """Runs a program, which has to succeed, and returns its output."""
-        done = subprocess.run(words, cwd=folder or self.folder, env=self.surroundings(version) | env,
-                              stdin=subprocess.DEVNULL, capture_output=True, timeout=SECONDS, check=False)
-        if done.returncode != 0:
-            raise Failed(f"{' '.join(words)}: {done.stderr.decode(errors='replace').strip()}")
-        return done.stdout
+        got = run(words[0], words[1:], folder or self.folder, env=self.surroundings(version) | env)
+        if got.status != 0:
+            raise Failed(f"{' '.join(words)}: {got.err.decode(errors='replace').strip()}")
+        return got.out
 
     def create(self, names: tuple[str, ...]) -> None:
         """Creates the database, and the principals of those names, by an edited dump."""
@@ -211,7 +210,6 @@ def faults_of_random(program: str, random: Random) -> list[str]:
 
 def in_realm(what: str, *checks: Callable[[Report, str, Realm], None], more: tuple[str, ...] = ()) -> Check:
     """Returns a check that makes those in a realm with its principals and more of them, if MIT's programs are there."""
-
     def check(report: Report, program: str) -> None:
         try:
             with realm(more) as made:

@@ -11,11 +11,9 @@ from runs.undisturbed import Undisturbed, undisturbed
 
 BREAKS = ("tests/corpus/ccache", "crates/krb_ccache", "crates/krb_editors/src/ccedit.rt")
 
-# Lines that set values in a cache, and how MIT's klist shows these.
+# Lines that set values in a cache, how MIT's klist shows these, and a time at which some of the tickets have expired.
 SETTING = b"config fast_avail krbtgt/R@R no\nconfig mine - 1\n"
 SET = ["config: fast_avail(krbtgt/R@R) = no\n", "config: mine = 1\n"]
-
-# A time at which some of the tickets have expired.
 NOW = 1_800_000_000
 
 

@@ -18,10 +18,8 @@ from runs.harness import TOP, Case, Outcome, Report
 
 BREAKS = ("tests/corpus", "tests/samples_of_corpus", "crates/corpus_samples")
 
-# The folder of the files and cases.
+# The folder of the files and cases, and the rows of the tables in its README: a file, and who wrote it.
 FOLDER = os.path.join(TOP, "tests", "corpus")
-
-# The rows of the tables in the folder's README: a file, and who wrote it.
 ROW = re.compile(r"^\| `(\S+)` \| (.*?) \| .*? \|$", re.M)
 
 

@@ -29,12 +29,10 @@ A, MARKED = Entry((b"a",)), keytab(HOST, END, b"\xff" * 20)
 # MIT's programs read a file of version 1 in the byte order of the machine.
 CHANGES = [
     *((undisturbed("ktedit k", text(script), name=name, k=image), count) for name, image, script, count in (
-        ("a new file", None, [ADD_HOST, *EACH_ETYPE], 9),
-        ("holes that are filled", HOLES, [ADD_B, ADD_C, ADD_HOST], 5),
+        ("a new file", None, [ADD_HOST, *EACH_ETYPE], 9), ("holes that are filled", HOLES, [ADD_B, ADD_C, ADD_HOST], 5),
         ("removals and additions", TWO, ["cut 2", ADD_C, *EACH_ETYPE, "cut 53", "cut 98", ADD_B], 9),
         ("a rewrite", HOLES, [ADD_C, *EACH_ETYPE, "cut 66", "rewrite", ADD_HOST], 11),
-        ("all removed", TWO, ["cut 2", "cut 53"], 0),
-        ("an end mark", MARKED, [ADD_B, ADD_C], 3),
+        ("all removed", TWO, ["cut 2", "cut 53"], 0), ("an end mark", MARKED, [ADD_B, ADD_C], 3),
         ("version 1", OLD, ["cut 2", ADD_B, ADD_HOST], 3),
         ("version 1 that is rewritten", OLD, ["cut 2", "rewrite", ADD_B], 2))),
     *((undisturbed(line, name=name, k=source, t=target), count) for name, line, source, target, count in (
@@ -72,11 +70,9 @@ SAME = [
 NAMES = ((b"a",), (b"host", b"a"), (b"b",))
 VERSIONS = (1, 2, 126, 127, 128, 129, 239, 240, 241, 242, 254, 255, 256, 257)
 
+# Entries around another. Of the version 1 files, MIT's programs read those of the machine's own byte order.
 FIRST, LAST = Entry((b"first",)), Entry((b"last",))
-
-# Of the version 1 files, MIT's programs read those of the machine's own byte order.
 KINDS = ((2, BIG, ()), (1, sys.byteorder, ("--v1-big",) if sys.byteorder == BIG else ()))
-
 USER, SERVICE = (b"user@" + REALM).decode(), (b"svc/h@" + REALM).decode()
 
 

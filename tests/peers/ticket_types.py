@@ -4,8 +4,7 @@ and MIT's klist shows the enctype too."""
 from collections.abc import Callable
 from dataclasses import replace
 
-from makers.images import TICKET, cache
-from makers.tickets import FIELDS, VERSION, element, encrypted, ticket
+from makers.images import TICKET, TICKET_FIELDS, TICKET_VERSION, cache, element, encrypted, ticket
 from peers.beside_mit import are_there, as_json, differing_types, ticket_types
 from peers.corpus import files
 from runs.harness import Report, folder_of
@@ -49,11 +48,10 @@ ROWS: dict[str, tuple[bytes, Encryption]] = {
     **{f"{name}, element {at} of {len(data)}": (ticket(data, at=at, odd=odd), NOTHING)
        for name, odd in ODD.items() for data in (DATA, LONG) for at in range(4)},
     "a long one": (ticket(LONG), USUAL),
-    "empty realm, sname and cipher": (ticket(DATA[:10] + b"\xa2\0", VERSION + b"\xa1\0\xa2\0"), USUAL),
-    "no realm": (ticket(DATA, VERSION + FIELDS[10:]), NOTHING),
-    "version 4": (ticket(DATA, FIELDS.replace(VERSION, b"\xa0\3\2\1\4")), NOTHING),
-    "the kvno twice": (ticket(DATA[:10] + DATA[5:]), NOTHING),
-    "no cipher": (ticket(DATA[:10]), NOTHING),
+    "empty realm, sname and cipher": (ticket(DATA[:10] + b"\xa2\0", TICKET_VERSION + b"\xa1\0\xa2\0"), USUAL),
+    "no realm": (ticket(DATA, TICKET_VERSION + TICKET_FIELDS[10:]), NOTHING),
+    "version 4": (ticket(DATA, TICKET_FIELDS.replace(TICKET_VERSION, b"\xa0\3\2\1\4")), NOTHING),
+    "the kvno twice": (ticket(DATA[:10] + DATA[5:]), NOTHING), "no cipher": (ticket(DATA[:10]), NOTHING),
     "nothing": (b"", NOTHING),
 }
 

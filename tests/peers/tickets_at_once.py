@@ -15,13 +15,10 @@ from runs.storms import Run, rage
 
 BREAKS = ("crates/krb_disk/src/looks/locks.rt", "crates/krb_editors/src/ccremove.rt")
 
-# How many runs of each command there are, and within how many seconds they begin.
-EACH = 15
-WITHIN = 0.5
-
-# Services whose tickets are removed, and those whose tickets are added.
-GOING = tuple(f"svc/r{number}" for number in range(EACH))
-COMING = tuple(f"svc/s{number}" for number in range(EACH))
+# How many runs of each command there are, and within how many seconds they begin. Services whose tickets are removed,
+# and those whose tickets are added.
+EACH, WITHIN = 15, 0.5
+GOING, COMING = (tuple(f"svc/{letter}{number}" for number in range(EACH)) for letter in "rs")
 
 
 def runs_of(program: str) -> list[Run]:
@@ -67,7 +64,6 @@ def storm(program: str, made: Realm, seed: int) -> list[str]:
 
 def check_rounds(report: Report, program: str, seeds: range) -> None:
     """Runs the storms of some seeds, if MIT's programs are installed."""
-
     def check_storms(report: Report, program: str, made: Realm) -> None:
         for seed in seeds:
             report.check(f"ccedit and ccremove beside kvno, round {seed}", storm(program, made, seed)[:3])

@@ -15,10 +15,8 @@ from runs.undisturbed import undisturbed
 
 BREAKS = ("crates/krb_readers/src/klist", "crates/krb_audit/src/tickets.rt")
 
-# The end of the usual ticket, and another.
+# The end of the usual ticket, and another. The servers of the random caches, two of ticket-granting tickets.
 END, LATER = TICKET.endtime, TICKET.endtime + 1_000
-
-# The servers of the random caches. Two are a ticket-granting ticket of some realm.
 SERVERS = (Name((b"krbtgt", b"R")), Name((b"krbtgt", b"S")), Name((b"krbtgt", b"R"), b"S"), Name((b"host", b"a")),
            Name((CONFIG_FIRST, b"k"), CONFIG_REALM), Name((CONFIG_FIRST, b"k", b"p"), CONFIG_REALM))
 
@@ -75,8 +73,7 @@ def check_same(report: Report, under: Preloaded) -> None:
     for name, image in (*files("ccache"), *made, *cut):
         if image not in (image for image, _, _ in DIFFERENT.values()):
             report.check(f"MIT's klist -s and ours: {name}", faults_of(under, image)[:1])
-    image = cache(TICKET)
-    report.check("MIT's klist -s and ours with --for", faults_of(under, image, 86_400))
+    report.check("MIT's klist -s and ours with --for", faults_of(under, cache(TICKET), 86_400))
 
 
 def faults_of_random(under: Preloaded, random: Random) -> list[str]:

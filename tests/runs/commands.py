@@ -138,8 +138,7 @@ def mixed_keytab(count: int) -> bytes:
     parts = []
     for number in range(count):
         name = (b"x" * (number % 30), b"%d" % number)
-        entry = Entry(name, timestamp=number, version32=number, version8=number % 256)
-        parts.append(record(entry.spelled()))
+        parts.append(record(Entry(name, timestamp=number, version32=number, version8=number % 256).spelled()))
         if number % 5 == 0:
             parts.append(hole(bytes(20 + number % 60)))
     return keytab(*parts)
@@ -185,10 +184,9 @@ def mixed_cache(count: int) -> bytes:
 def talk(count: int) -> Undisturbed:
     """Returns a run of ktutil that reads `a` and `b`, makes `n` and changes `a`, with some faulty lines. `b` has an end
     mark, `d` is damaged, and `a` has that many entries."""
-    lines = ["l", "rkt a", "l -t -k -e", "addent -key -p new/one@R -k 7 -e 18", KEYS[32],
-             "wkt n", "frob", "rkt b", "delent 2", "wkt n", "rkt no", "l -t -k -e", "clear",
-             "rkt d", "addent -key -p x@R -k 1 -e 17", "00", "rkt n", "wkt a", "wkt d", "l", "rkt a",
-             "addent -p y@R -key -e 17 -k 300", KEYS[16], "wkt a", "l -e",
+    lines = ["l", "rkt a", "l -t -k -e", "addent -key -p new/one@R -k 7 -e 18", KEYS[32], "wkt n", "frob", "rkt b",
+             "delent 2", "wkt n", "rkt no", "l -t -k -e", "clear", "rkt d", "addent -key -p x@R -k 1 -e 17", "00",
+             "rkt n", "wkt a", "wkt d", "l", "rkt a", "addent -p y@R -key -e 17 -k 300", KEYS[16], "wkt a", "l -e",
              "addent -key -p z@R -k 1 -e 1"]
     marked = old(Entry((b"m",)), Entry((b"n",))) + END + b"xyz"
     return at_now("ktutil", text(lines), a=mixed_keytab(count), b=marked, d=DAMAGED)
@@ -199,15 +197,11 @@ def usual_runs(size: str, image: bytes, tickets: bytes, rotated: bytes, counts: 
     """Returns runs of each command over files of a size, with scripts and a talk of that many lines, and copies from a
     keytab into another, of all entries and of new versions."""
     return [
-        at_now("klist -ktKe k", k=image),
-        at_now("klist -cefC c", c=tickets),
-        at_now("klist -kK --json k", k=image),
-        at_now("klist --json c", c=tickets),
-        at_now("show k c no r", k=image, c=tickets, r=rotated),
-        at_now("ktfind k 0 17 -- xxx/3@R", k=image),
-        at_now("ktcheck k", k=rotated),
-        at_now("ktcheck k no r k", k=image, r=rotated),
-        at_now("ktcheck --json --older 18500d --want c@R k no r k", k=image, r=rotated),
+        *(at_now(line, k=image) for line in ("klist -ktKe k", "klist -kK --json k", "ktfind k 0 17 -- xxx/3@R")),
+        *(at_now(line, c=tickets) for line in ("klist -cefC c", "klist --json c")),
+        at_now("show k c no r", k=image, c=tickets, r=rotated), at_now("ktcheck k", k=rotated),
+        *(at_now(f"ktcheck {options}k no r k", k=image, r=rotated)
+          for options in ("", "--json --older 18500d --want c@R ")),
         at_now("ktedit k", mixed_script(image, counts[0]), name=f"a {size} script", k=image),
         at_now("ktremove -k old k", name=f"of {size} old versions", k=rotated),
         *(at_now(f"ktcopy {options} k t", name=f"{options} of {size} keytabs", k=source, t=target)
@@ -215,8 +209,7 @@ def usual_runs(size: str, image: bytes, tickets: bytes, rotated: bytes, counts: 
         *(at_now("ktdiff k t", name=f"of {size} keytabs", k=source, t=target) for source, target in copied),
         at_now("ccedit c", mixed_script(tickets, counts[1]), name=f"a {size} script", c=tickets),
         at_now("ccremove --expired c", name=f"of {size} expired ones", c=tickets),
-        at_now("hold -k k", frame(rotated), name=f"a {size} keytab", k=image),
-        talk(counts[2]),
+        at_now("hold -k k", frame(rotated), name=f"a {size} keytab", k=image), talk(counts[2]),
     ]
 
 
@@ -225,10 +218,8 @@ def faulty_runs(image: bytes, tickets: bytes) -> list[Undisturbed]:
     return [
         *map(at_now, ("--help", "klist --help", "frob", "klist -k k --nosuch")),
         *(at_now(f"{command} k", k=DAMAGED) for command in ("klist -k", "ktcheck")),
-        at_now("klist -c c", c=tickets[:-1]),
-        at_now("klist -s c", c=VALID),
-        at_now("ktfind k 4 0 -- xxx/3@R", k=image),
-        at_now("ktcheck k", k=image),
+        at_now("klist -c c", c=tickets[:-1]), at_now("klist -s c", c=VALID),
+        *(at_now(line, k=image) for line in ("ktfind k 4 0 -- xxx/3@R", "ktcheck k")),
         at_now("ktcheck k no c d k", k=image, c=tickets, d=DAMAGED),
         at_now("ktedit k", b"add 3 1 0 - b@R\nadd 3 1 0 00 c@R\nstart\nstep 0\n", name="no file"),
         at_now("ktedit k", mixed_script(image, 4) + b"frob\n", name="a faulty script", k=image),
@@ -245,19 +236,15 @@ def small_edits(image: bytes, tickets: bytes, rotated: bytes) -> list[Undisturbe
     return [
         in_place(at_now("ktedit k", mixed_script(image, 4), name="a small script", k=image)),
         in_place(at_now("hold c", frame(USUAL), name="a cache", c=tickets)),
-        removes,
-        in_place(removes),
-        at_now("ccremove -p no@R c", name="of nothing", c=tickets),
+        removes, in_place(removes), at_now("ccremove -p no@R c", name="of nothing", c=tickets),
         at_now("ccedit c", b"start\ncut 20\nconfig k - v\nrewrite\nstep 0\n", name="version 3", c=VERSION_3),
         at_now("ktremove -k old --age 0 k", name="of versions old for long", k=rotated),
-        at_now("ktremove -p xxx/3@R -e 17 -e 23 k", name="of a name", k=image),
-        at_now("ktremove -k 4000 k", name="of nothing", k=image),
+        *(at_now(f"ktremove {options} k", name=name, k=image)
+          for options, name in (("-p xxx/3@R -e 17 -e 23", "of a name"), ("-k 4000", "of nothing"))),
         at_now("ktremove -e 17 k r", name="of two keytabs", k=image, r=rotated),
         at_now("ccremove -p krbtgt/R@R c d", name="of two caches", c=USUAL, d=VALID),
-        at_now("ktdiff k t", name="of other keys", k=many, t=others),
-        at_now("klist -k k no r k", k=image, r=rotated),
-        at_now("klist -l c no d", c=VALID, d=cache()),
-        at_now("ktcopy k t", name="into no bytes", k=TWO, t=b""),
+        at_now("ktdiff k t", name="of other keys", k=many, t=others), at_now("klist -k k no r k", k=image, r=rotated),
+        at_now("klist -l c no d", c=VALID, d=cache()), at_now("ktcopy k t", name="into no bytes", k=TWO, t=b""),
         at_now("ktcopy -p /0@R -p x/1@R -k new k t", name="of new versions", k=rotated),
         *(at_now(f"ktcopy {options} k t", name=f"{options} {name}", k=many, t=target) for options, name, target in (
             ("--replace", "in place of others", others), ("", "that clashes", others),

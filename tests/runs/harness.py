@@ -14,17 +14,12 @@ from contextlib import contextmanager
 from dataclasses import dataclass, field, replace
 from pathlib import Path
 
-# The option by which messages are explained.
+# The repository, and the option by which messages are explained.
+TOP = os.path.dirname(os.path.dirname(os.path.dirname(os.path.abspath(__file__))))
 EXPLAIN = "--explain"
 
-# The repository.
-TOP = os.path.dirname(os.path.dirname(os.path.dirname(os.path.abspath(__file__))))
-
-# Longer than any run takes.
-SECONDS = 60
-
-# With more input bytes than this, an unproved program takes longer: it checks each access to memory.
-LARGE = 1_000_000
+# Longer than any run takes. With more input bytes an unproved program takes longer: it checks each access to memory.
+SECONDS, LARGE = 60, 1_000_000
 
 
 @dataclass(frozen=True)
@@ -161,6 +156,12 @@ def run(program: str, words, folder: str, stdin: bytes = b"", **options) -> Outc
     return Outcome(done.returncode, done.stdout or b"", done.stderr or b"")
 
 
+def piped(program: str, words, folder: str, **options) -> subprocess.Popen[bytes]:
+    """Starts a run in that folder. Its input and its outputs are pipes, except those that `options` redirect."""
+    pipes = dict.fromkeys(("stdin", "stdout", "stderr"), subprocess.PIPE)
+    return subprocess.Popen([program, *words], cwd=folder, **{**pipes, **options})
+
+
 def run_case(program: str, case: Case, **options) -> tuple[Outcome, dict[str, bytes]]:
     """Runs a case in a folder of its own, and returns its outcome and the files that are there afterwards."""
     with folder_of(case.files) as folder:
@@ -170,7 +171,6 @@ def run_case(program: str, case: Case, **options) -> tuple[Outcome, dict[str, by
 def limit(kind: int, most: int, is_spared: bool = True) -> Callable[[], None]:
     """Returns a function that limits a resource. A write that would exceed the limit of a file is cut if the run is
     spared the signal that would end it."""
-
     def before_run() -> None:
         signal.signal(signal.SIGXFSZ, signal.SIG_IGN if is_spared else signal.SIG_DFL)
         resource.setrlimit(kind, (most, most))
@@ -192,7 +192,6 @@ Check = Callable[[Report, str], None]
 def every(*checks: Check, of: str = "", needs: tuple[str, ...] = (), lack: Callable[[], str] = str) -> Check:
     """Returns a check that makes those in turn. Where a tool that they need is missing, or something is lacking, it
     reports the part OF as left out."""
-
     def check(report: Report, program: str) -> None:
         missing = [tool for tool in needs if shutil.which(tool) is None]
         if why := f"{missing[0]} is not there" if missing else lack():
@@ -248,26 +247,8 @@ def over(name: str, line: str | Line, image: bytes | None, wanted: Outcome | lis
                 files_after or files, given if isinstance(given, bytes) else text(given))
 
 
-@dataclass(frozen=True)
-class Help:
-    """A line that prints help, on the output, and words that it has."""
-
-    line: str
-    wanted_words: tuple[bytes, ...]
-
-    def check(self, report: Report, program: str) -> None:
-        """Runs it. Help ends with a newline."""
-        with folder_of({}) as folder:
-            got = run(program, self.line.split(), folder)
-        found = differences(Outcome(0, got.out), got)
-        found += [f"no word of {word.decode()}" for word in self.wanted_words if word not in got.out]
-        if not got.out.endswith(b"\n"):
-            found.append("the last line does not end")
-        report.check(f"help: {shown(self.line)}", found)
-
-
 # A row is checked as a case is. One of large files is a function, which makes it when it is run.
-Row = Case | Help | Callable[[], Case]
+Row = Case | Callable[[], Case]
 
 
 def check_rows(report: Report, program: str, rows: Iterable[Row]) -> None:

@@ -8,10 +8,8 @@ from shlex import quote
 
 from runs.harness import SECONDS, Outcome, folder_of, run
 
-# Makes the mounts, and starts the words after it.
+# What makes the mounts, and starts the words after it; and what the system reports of the run, in its shell's place.
 UNSHARE = ("unshare", "--mount") if os.geteuid() == 0 else ("unshare", "--mount", "--user", "--map-root-user")
-
-# What the system reports of the run, once it takes the place of its shell.
 STATUS = "/proc/$$/status"
 
 

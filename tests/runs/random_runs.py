@@ -10,10 +10,8 @@ from shlex import quote
 
 from runs.harness import Case, Report
 
-# An unproved program is slow: it runs one of this many numbers.
+# An unproved program is slow: it runs one of this many numbers. And the folder of the cases that went wrong.
 ONE_IN = 10
-
-# The folder of the cases that went wrong.
 KEPT = os.path.join(tempfile.gettempdir(), "krbfile-kept")
 
 

@@ -7,13 +7,12 @@ from collections.abc import Collection
 from dataclasses import dataclass, field
 from random import Random
 
-from runs.harness import SECONDS
+from runs.harness import SECONDS, piped
 from words.phrases import AFTERMATHS
 
-# A run that is refused has waited for another for this many seconds, or failed for another reason.
+# A run that is refused has waited for another for this many seconds, or failed for another reason. One that saved, and
+# lost the change of another program, reports this; its status is 1.
 LEAST_WAIT = 9
-
-# What a run reports that saved, and lost the change of another program; its status is 1.
 LOST = AFTERMATHS["lost change"].encode()
 
 # A run that reads no input starts when its shell has read a line.
@@ -37,8 +36,7 @@ class Run:
     def start(self, folder: str, env: dict[str, str]) -> None:
         """Starts it; it then waits."""
         line = self.line if self.text else (*WAITS, *self.line)
-        self.started = subprocess.Popen(line, cwd=folder, env=env, stdin=subprocess.PIPE, stdout=subprocess.PIPE,
-                                        stderr=subprocess.STDOUT)
+        self.started = piped(line[0], line[1:], folder, env=env, stderr=subprocess.STDOUT)
 
     def begin(self) -> None:
         """Gives it all of its input."""
@@ -57,15 +55,9 @@ class Run:
         has_failed = self.is_mits and b" while " in self.output
         return LOST in self.output or self.started.returncode == 0 and not has_failed
 
-    def end_is_reported(self, beside_mit: bool) -> bool:
-        """Whether it ended as it may: it saved, was killed, or was refused for good reason."""
-        status = self.started.returncode
-        was_killed = self.is_killed and status == -signal.SIGKILL
-        has_waited = self.seconds > LEAST_WAIT and status == 3
-        return status == 0 or was_killed or has_waited or (beside_mit and status in (1, 3))
-
     def faults(self, names: Collection[str], beside_mit: bool) -> list[str]:
-        """Returns its faults, given the names that the file has after all runs."""
+        """Returns its faults, given the names that the file has after all runs. It may end if it saved, was killed, or
+        was refused for good reason."""
         # MIT's may write into a file that has lost its name, and is not judged.
         if self.is_mits:
             return []
@@ -73,8 +65,10 @@ class Run:
         found = [f"{self.name} is lost"] if self.saves() and not is_done else []
         if is_done and not (self.saves() or self.is_killed):
             found.append(f"{self.name} was refused, and is done")
-        if not self.end_is_reported(beside_mit):
-            found.append(f"{self.name}: status {self.started.returncode}, {self.output}")
+        status = self.started.returncode
+        was_killed, has_waited = self.is_killed and status == -signal.SIGKILL, self.seconds > LEAST_WAIT and status == 3
+        if not (status == 0 or was_killed or has_waited or beside_mit and status in (1, 3)):
+            found.append(f"{self.name}: status {status}, {self.output}")
         return found
 
 

@@ -5,14 +5,13 @@ import os
 import re
 import signal
 import struct
-import subprocess
 import tempfile
 import time
 from collections import Counter
 from collections.abc import Callable, Iterator
 from dataclasses import dataclass, replace
 
-from runs.harness import SECONDS, Case, Outcome, Report, faults_of, files_in, folder_of, mode_of_files, run
+from runs.harness import SECONDS, Case, Outcome, Report, faults_of, files_in, folder_of, mode_of_files, piped, run
 from runs.undisturbed import Run, preload_library, undisturbed
 
 # A line of a trace that begins a system call.
@@ -86,9 +85,8 @@ def halted(program: str, one: Run, folder: str, halt: Halt, change: Callable[[st
            env: dict[str, str] | None = None) -> Outcome:
     """Makes a run that is halted somewhere until a change is made in its folder, and then goes on."""
     with tempfile.NamedTemporaryFile() as trace:
-        words = ["strace", "-f", "-o", trace.name, *halt.options(), program, *one.words]
-        with subprocess.Popen(words, cwd=folder, env=env, stdin=subprocess.PIPE, stdout=subprocess.PIPE,
-                              stderr=subprocess.PIPE) as started:
+        words = ["-f", "-o", trace.name, *halt.options(), program, *one.words]
+        with piped("strace", words, folder, env=env) as started:
             started.stdin.write(one.stdin)
             started.stdin.close()
             started.stdin = None

@@ -17,8 +17,7 @@ def all_of(end: int) -> bytes:
     return b"".join(parts).replace(b"\r\n", b"\n")
 
 
-def run_on_terminal(program: str, words, folder: str, stdin: bytes = b"", stream: str = "stderr",
-                    **options) -> Outcome:
+def run_on_terminal(program: str, words, folder: str, stdin: bytes = b"", stream: str = "stderr", **options) -> Outcome:
     """Makes a run with one output on a terminal, by default the error output."""
     ours, theirs = os.openpty()
     with ThreadPoolExecutor(1) as pool:
@@ -31,10 +30,6 @@ def run_on_terminal(program: str, words, folder: str, stdin: bytes = b"", stream
     return replace(got, **{stream.removeprefix("std"): shown.result()})
 
 
-def run_explained(program: str, words, folder: str, stdin: bytes = b"", **options) -> Outcome:
-    """Makes a run that is given `--explain`."""
-    return run(program, (EXPLAIN, *words), folder, stdin, **options)
-
-
 # The ways to make a run, each with whether it explains messages.
-WAYS = {"on a pipe": (run, False), "on a terminal": (run_on_terminal, True), EXPLAIN: (run_explained, True)}
+WAYS = {"on a pipe": (run, False), "on a terminal": (run_on_terminal, True),
+        EXPLAIN: (lambda program, words, *more, **options: run(program, (EXPLAIN, *words), *more, **options), True)}

@@ -11,10 +11,8 @@ from functools import cache, cached_property
 
 from runs.harness import EXPLAIN, Case, Line, Outcome, mode_of_files, run_case, shown, words_of
 
-# The option by which a file is saved in place.
+# The option by which a file is saved in place. The program that is tested, once `use` has named it, and its runs.
 IN_PLACE = "--in-place"
-
-# The program that is tested, once `use` has named it, and the runs that were made of it.
 PROGRAM: list[str] = []
 SEEN: list[Case] = []
 

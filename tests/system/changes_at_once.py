@@ -24,17 +24,13 @@ from system.saving import tree, write
 
 BREAKS = ("crates/krb_disk",)
 
-# How many runs there are at once.
+# How many runs there are at once, and parts of a listing as JSON, each with the member that begins with a name.
 MANY = 60
-
-# Parts of a listing as JSON, each with the member that begins with a name.
 NAMED = {"entries": "principal", "tickets": "server", "config": "key"}
 
-# The names by which the runs call the file, and the contents of the folder at the end.
+# The names by which the runs call the file, what is in the folder at the end, and a program that adds by `hold`.
 PATHS = ("k", "./k", "link")
 LEFT = {"k", "link"}
-
-# Another program that adds entries by `hold`, which a keytab has.
 ADDS = ("sh", os.path.join(TOP, "examples", "edit-keytab.sh"))
 
 
@@ -99,10 +95,8 @@ KINDS = (*(Kind(names, kills=kills) for names in (*OF_KEYTABS, *OF_CACHES, MIXED
          *(Kind(names, over_none=True, kills=kills) for names in ADDING for kills in (False, True)),
          *(Kind(names, with_mit=True) for names in (*ADDING, MIXED)))
 
-# The kinds in which other programs add entries by `hold`: these are the runs that are killed.
+# The kinds in which other programs add by `hold`: these are the runs that are killed. Those with some runs in place.
 HOLDS = (Kind(("ktedit", "hold", "ktremove", "hold")), Kind(("ktedit", "hold"), kills=True))
-
-# The kinds with some runs that save in place.
 PLACES = (*(Kind(names, in_place=True) for names in (("ktedit",), ("ktutil",), MIXED, BOTH)),
           *(Kind(names, in_place=True, kills=True) for names in (("ktedit",), BOTH)))
 

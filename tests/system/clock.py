@@ -22,17 +22,13 @@ Row = tuple[Case, dict[str, int]]
 
 # Settings of the clock, and the time that is listed: 0 if the seconds do not fit 32 bits.
 KNOWN = [
-    ({"CLOCK": 1_700_000_000}, "2023-11-14T22:13:20Z"),
-    ({"CLOCK": 2**32 - 1}, "2106-02-07T06:28:15Z"),
-    ({"CLOCK": 2**32}, "1970-01-01T00:00:00Z"),
-    ({"CLOCK": 2**64 - 1}, "1970-01-01T00:00:00Z"),
+    ({"CLOCK": 1_700_000_000}, "2023-11-14T22:13:20Z"), ({"CLOCK": 2**32 - 1}, "2106-02-07T06:28:15Z"),
+    ({"CLOCK": 2**32}, "1970-01-01T00:00:00Z"), ({"CLOCK": 2**64 - 1}, "1970-01-01T00:00:00Z"),
     ({"FAIL_CLOCK": 1}, "1970-01-01T00:00:00Z"),
 ]
 
-# Clocks that cannot be read as seconds of 32 bits.
+# Clocks that cannot be read as seconds of 32 bits, and the messages about them.
 UNREAD = ({"CLOCK": 2**32}, {"CLOCK": 2**64 - 1}, {"FAIL_CLOCK": 1})
-
-# The messages about them.
 NO_CLOCK = message(3, "cannot read the clock")
 EXPLAINED = Outcome(3, err=NO_CLOCK.err + f"krbfile: {CLOCK}\n".encode())
 

@@ -39,10 +39,8 @@ FAILED = {
     ("fsync", ""): {"EBUSY": "error 16"}, ("rename", ""): named("EBUSY EIO"),
 }
 
-# More than the number of any error of the system.
+# More than the number of any error of the system; and the rename, and then the sync of the folder.
 MOST_ERRORS = 134
-
-# The rename, and then the sync of the folder.
 SYNCED = re.compile(r'^rename.*"d/k\.krbfile".* = 0\nopen.*"d", .* = (\d+)\nfsync\(\1\) += 0$', re.MULTILINE)
 
 

@@ -16,10 +16,8 @@ from words.phrases import CAUSES
 
 BREAKS = ("crates/krb_disk/src/save.rt", "crates/krb_disk/src/stage.rt", "crates/krb_disk/src/mode.rt")
 
-# Runs that change a file: the last one copies over a file of no bytes.
+# Runs that change a file, the last one of no bytes, and modes of files that are replaced by their owner.
 ALL = (*CHANGES, *copies(("", TWO, b"", "into no bytes")))
-
-# Modes of files that are replaced by their owner.
 MODES = (0o400, 0o600, 0o640, 0o664, 0o604, 0o6755)
 
 
@@ -63,8 +61,7 @@ def check_others_files(report: Report, program: str) -> None:
         theirs = Owned(mode, USER, GROUP)
         for case in ALL:
             check_owned(report, "a user's file saved by root", program, theirs, theirs, case)
-        inside = as_user((GROUP,))
-        check_owned(report, "a user's file in one of its groups", program, theirs, theirs, **inside)
+        check_owned(report, "a user's file in one of its groups", program, theirs, theirs, **as_user((GROUP,)))
     for what, before, after, groups, modes in LOST:
         for old, new in modes:
             check_owned(report, f"{what} lost", program, Owned(old, *before), Owned(new, *after), **as_user(groups))
@@ -72,7 +69,6 @@ def check_others_files(report: Report, program: str) -> None:
 
 def links_to(*links: tuple[str, str], data: bytes | None = OLD) -> Place:
     """Returns a place with two folders, links of these names and texts, and a file unless `data` is None."""
-
     def place(folder: str) -> None:
         for below in ("t", "u"):
             os.mkdir(os.path.join(folder, below))
@@ -128,11 +124,8 @@ def check_hard_links(report: Report, program: str) -> None:
 def check_removed(report: Report, program: str) -> None:
     """Checks that an open file that has lost its name is not saved, and that one with another name is."""
     cases = [
-        ("rm d", {}, UNSAVED),
-        ("rm d; echo >'d (deleted)'", {"d (deleted)": b"\n"}, UNSAVED),
-        ("rm d; echo >d", {"d": b"\n"}, UNSAVED),
-        (":", {"d": NEW}, SAVED),
-        ("mv d e", {"e": NEW}, SAVED),
+        ("rm d", {}, UNSAVED), ("rm d; echo >'d (deleted)'", {"d (deleted)": b"\n"}, UNSAVED),
+        ("rm d; echo >d", {"d": b"\n"}, UNSAVED), (":", {"d": NEW}, SAVED), ("mv d e", {"e": NEW}, SAVED),
         ("mv d 'd (deleted)'", {"d (deleted)": NEW}, SAVED),
     ]
     for name in ("/dev/fd/7", "/proc/self/fd/7"):

@@ -18,10 +18,8 @@ NO_MEMORY = message(4, "out of memory")
 UNUSED = {"none": message(1, "none: no such file").err, ".": message(3, ".: cannot read").err}
 READ_MISSING, OBJECT = b"rkt none\n", unchecked("none", "no such file", 1)
 
-# The commands that take several files, one after the other.
+# The commands that take several files, one after the other; and a run's end, and the files after it.
 OVER_FILES = ("klist", "show", "ktcheck", "ktremove", "ccremove")
-
-# A run's end, and the files after it.
 End = tuple[Outcome, dict[str, bytes]]
 
 

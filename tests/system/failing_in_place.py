@@ -19,12 +19,9 @@ from words.phrases import AFTERMATHS, CAUSES
 
 BREAKS = ("crates/krb_disk/src/in_place", "crates/krb_disk/src/in_place.rt", "crates/krb_disk/src/patch.rt")
 
-# The place from which a call writes, or cuts.
+# The place from which a call writes, or cuts. The calls that change a file, whose order is proved, and their errors.
 PLACE = re.compile(r"(?:pwrite64\(\d+, .*, \d+|ftruncate\(\d+), (\d+)\) ")
-
-# The calls that change a file, whose order is proved.
 CHANGES = ("pwrite64", "ftruncate", "fsync")
-
 ERRORS = ("EIO", "ENOSPC", "EDQUOT")
 
 
@@ -67,8 +64,7 @@ def check_lost(report: Report, program: str, case: Undisturbed, call: Call, back
         got, files, _ = run_failing(program, one, *both_fail(call, back))
         faults = differences(explained(unsaved(case), *words), got)
         faults += [] if files.keys() == case.files.keys() else [f"{[*files]} are there"]
-        is_there = files[file_of(case)].startswith(images(case)[0])
-        faults += [] if damage or is_there else ["an old byte is lost"]
+        faults += [] if damage or files[file_of(case)].startswith(images(case)[0]) else ["an old byte is lost"]
         report.check(f"{call} fails, then {back}: {shown(one.words)}: {case.name}", faults)
 
 

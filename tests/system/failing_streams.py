@@ -19,11 +19,9 @@ from system.saving import reported
 
 BREAKS = ("crates/krb_files", "crates/krb_commands", "crates/krb_driver/src/reporting")
 
+# Errors, more bytes than any read or write moves, and few.
 ERRORS = (EINTR, EAGAIN, ENOSPC, ENOMEM, EACCES)
-
-# More bytes than any read or write moves, and few.
 WHOLE, FEW = 1_000_000, 60
-
 NO_OUTPUT = message(3, "cannot write output")
 
 # What may fail in each run, and also in one of a command that saves, and of one that saves and reads an input.

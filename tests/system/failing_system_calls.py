@@ -24,10 +24,8 @@ BREAKS = ("crates/krb_disk",)
 
 ERRORS = ("EIO", "ENOSPC", "EACCES", "EPERM", "EINTR", "ENOMEM")
 
-# The calls that are repeated if they were interrupted. Reads and writes are not.
+# The calls that are repeated if they were interrupted, as reads and writes are not; and what an earlier save left.
 REPEATED = ("open", "openat", "flock", "fchmod", "fsync", "pwrite64", "ftruncate")
-
-# What an earlier save left in its new file.
 REMAINS = b"remains"
 
 # The calls without which a run does the same: those about the system's own files, the folder and what was replaced, the
@@ -54,8 +52,7 @@ def is_met(ends: Ends, line: str, end: End) -> bool:
     if is_repeated or SPARED.match(line) or NARROWED.match(line):
         return end == ends.whole
     saves = ends.of_saves if ends.run.files_after != ends.run.files else []
-    return end in [*ends.of_loads, *saves] or (
-        ends.run in TWO_FILES and bool(LOOK.match(line)) and end == ends.whole)
+    return end in [*ends.of_loads, *saves] or (ends.run in TWO_FILES and bool(LOOK.match(line)) and end == ends.whole)
 
 
 def faults_of_files(ends: Ends, files: dict[str, bytes]) -> list[str]:

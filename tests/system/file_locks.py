@@ -20,14 +20,9 @@ from system.saving import (ADD, B_OLD, EQUAL, LONGER, PLACED, SAVED, check_over,
 
 BREAKS = ("crates/krb_disk/src/looks/locks.rt", "crates/krb_disk/src/deadline.rt")
 
-# A run that gives up takes this many seconds, however busy the machine is.
-LEAST_WAIT, LONGEST_WAIT = 9, 20
-
-# What needs no hold ends within this many seconds.
-AT_ONCE = 3
-
-# Runs that wait at the same time.
-RUNS = 8
+# A run that gives up takes this many seconds, however busy the machine is; one that needs no hold has ended within the
+# third. And how many runs wait at the same time.
+LEAST_WAIT, LONGEST_WAIT, AT_ONCE, RUNS = 9, 20, 3, 8
 
 # Runs that change a file, that have nothing to save, and that take no lock, in both ways if there are two.
 BOTH_WAYS, LEAVING, LOCKING_NOTHING = (both_ways(*runs) for runs in (CHANGES, LEAVES, READS))
@@ -38,10 +33,8 @@ OPEN_READ, OPEN_WRITE, PART = "a lock of an open file to read", "a lock of an op
 LOCKS: dict[str, Callable[[object], None]] = {
     FLOCK: lambda file: fcntl.flock(file, fcntl.LOCK_EX),
     "a shared flock": lambda file: fcntl.flock(file, fcntl.LOCK_SH),
-    TO_READ: lambda file: fcntl.lockf(file, fcntl.LOCK_SH),
-    TO_WRITE: lambda file: fcntl.lockf(file, fcntl.LOCK_EX),
-    OPEN_READ: lambda file: ofd_lock(file, fcntl.F_RDLCK),
-    OPEN_WRITE: lambda file: ofd_lock(file, fcntl.F_WRLCK),
+    TO_READ: lambda file: fcntl.lockf(file, fcntl.LOCK_SH), TO_WRITE: lambda file: fcntl.lockf(file, fcntl.LOCK_EX),
+    OPEN_READ: lambda file: ofd_lock(file, fcntl.F_RDLCK), OPEN_WRITE: lambda file: ofd_lock(file, fcntl.F_WRLCK),
     PART: lambda file: fcntl.lockf(file, fcntl.LOCK_EX, 1, 9),
 }
 
@@ -61,12 +54,7 @@ def set_back(folder: str) -> dict[str, tuple[object, ...]]:
 def faults_of_waiting(program: str, folder: str, end: Callable[[], None], case: Run = ADD) -> list[str]:
     """Returns the faults of a run that has to wait until `end`, which is called after a moment."""
     has_ended = threading.Event()
-
-    def end_it() -> None:
-        has_ended.set()
-        end()
-
-    timer = threading.Timer(0.3, end_it)
+    timer = threading.Timer(0.3, lambda: (has_ended.set(), end()))
     timer.start()
     faults = differences(case.wanted, run_over(program, case, folder))
     faults += [] if has_ended.is_set() else ["it did not wait"]

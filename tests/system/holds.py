@@ -3,7 +3,6 @@ meanwhile."""
 
 import os
 import re
-import subprocess
 from dataclasses import replace
 from functools import partial
 from itertools import product
@@ -11,12 +10,13 @@ from itertools import product
 from keytabs.file_names import LIMIT, sized
 from keytabs.listings import B_LINE, HOST_LINE, listed
 from makers.images import B, BIG, HOST, TWO, USUAL, VERSION_3, Entry, keytab, old, record
-from runs.harness import EXPLAIN, SECONDS, Case, Outcome, Report, differences, every, folder_of, run, words_of
+from runs.harness import (EXPLAIN, SECONDS, Case, Outcome, Report, differences, every, folder_of, message, piped, run,
+                          words_of)
 from runs.terminal import run_on_terminal
 from runs.undisturbed import IN_PLACE, frame
 from system.failing_streams import NO_OUTPUT
 from system.file_locks import is_locked
-from system.saving import HOLD_SAVED, as_another, check_over, explained, last_line, state_of, tree_faults
+from system.saving import HOLD_SAVED, as_another, check_over, explained, last_line, tree_faults
 from words.explaining import CUT_CACHE, Explained, case, failed, in_the_way, link, no_keytab, unchanged
 from words.phrases import (BAD_DEFAULT, BAD_HEADER, BEGINS_AS_CACHE, BEGINS_AS_NO_CACHE, BEGINS_AS_NO_KEYTAB, CAUSES,
                            ERRORS, GIVEN_DAMAGED, HELD_AS_KEYTAB, LARGE, NOT_WHOLE, SHORT, TO_A_PROGRAM, code)
@@ -122,16 +122,12 @@ CASES = [
 def check_left(report: Report, program: str) -> None:
     """Checks that the file stays as it is if nothing is saved, and in place what a killed run left beside it."""
     for line, files in product((K, PLACED), ({"k": TWO}, LEFT)):
-        for data, status, last in ((b"", 0, b"left"), (frame(TWO), 0, b"left"), (b"3\n\5\2", 1, b"failed 1 EBADMSG"),
-                                   (EMPTY, 0, b"saved")):
-            with folder_of(files) as folder:
-                before = state_of(folder)
-                got = run(program, line.split(), folder, data)
-                faults = [] if (got.status, got.out) == (status, frame(TWO) + last + b"\n") else [f"{got}"]
-                faults += [] if data == EMPTY or state_of(folder)["k"] == before["k"] else ["the file was written"]
-                left = {name: files[name] for name in files if name != "k" and line == PLACED}
-                faults += tree_faults({"k": NONE if data == EMPTY else TWO, **left}, folder)
-            report.check(f"{[*files]}: {line}, {data[:4]}", faults)
+        for data, last, wanted in ((b"", b"left\n", Outcome(0)), (frame(TWO), b"left\n", Outcome(0)),
+                                   (b"3\n\5\2", b"failed 1 EBADMSG\n", message(1, "input is not whole")),
+                                   (EMPTY, b"saved\n", Outcome(0))):
+            after = ({"k": NONE} if data == EMPTY else {}) | ({} if line == PLACED else {"k.krbfile": None})
+            check_over(report, program, Case(f"{[*files]}: {line}, {data[:4]}", tuple(line.split()),
+                                             replace(wanted, out=frame(TWO) + last), files, after, data))
 
 
 def check_locked(report: Report, program: str) -> None:
@@ -163,9 +159,7 @@ def check_outputs(report: Report, program: str) -> None:
             faults = differences(explained(NO_OUTPUT, TO_A_PROGRAM), got) + tree_faults(files, folder)
         report.check(f"a terminal, and {[*files]}", faults)
     for line, (data, after) in product((K, PLACED), ((b"", TWO), (EMPTY, NONE))):
-        with folder_of({"k": TWO}) as folder, subprocess.Popen(
-                [program, *line.split()], cwd=folder, stdin=subprocess.PIPE, stdout=subprocess.PIPE,
-                stderr=subprocess.PIPE) as held:
+        with folder_of({"k": TWO}) as folder, piped(program, line.split(), folder) as held:
             held.stdout.read(len(frame(TWO)))
             held.stdout.close()
             _, err = held.communicate(data, timeout=SECONDS)
@@ -176,8 +170,7 @@ def check_outputs(report: Report, program: str) -> None:
 def check_lasts(report: Report, program: str) -> None:
     """Checks that the file is locked until the input ends, and not any more then, and that listings go on."""
     for line in (K, PLACED):
-        with folder_of({"k": TWO}) as folder, subprocess.Popen(
-                [program, *line.split()], cwd=folder, stdin=subprocess.PIPE, stdout=subprocess.PIPE) as held:
+        with folder_of({"k": TWO}) as folder, piped(program, line.split(), folder) as held:
             path = os.path.join(folder, "k")
             faults = [] if held.stdout.read(len(frame(TWO))) == frame(TWO) else ["no frame"]
             faults += [] if is_locked(path) else ["not locked"]

@@ -6,9 +6,8 @@ Each file has the number 0 on the device 0:0. That of its mount is 0:38, if that
 import os
 from itertools import product
 
-from makers.images import TWO
 from runs.commands import OLD, SCRIPT, Run
-from runs.harness import EXPLAIN, Outcome, Report, differences, folder_of
+from runs.harness import EXPLAIN, Report, differences, folder_of
 from runs.system_calls import Counted, Preloaded, preloaded
 from runs.undisturbed import in_place, undisturbed
 from system.saving import ADD, EQUAL, UNSAVED, explained
@@ -40,20 +39,16 @@ LOCK_LINES = {
                          lock("00:26:0", "-> POSIX  MANDATORY WRITE 12"), lock("00:00:1") * 300 + LOCK),
     (False, False, False): (FLOCK, NO_LOCK, b"\xff", *map(lock, ("00:00:10", "00:26:1", "fe:00:0", "103:26:0",
                                                                  "fe:00:131"))),
-    (False, True, True): (lock("00:1f:0"),),
-    (True, True, False): (lock("00:26:131"), lock("00:00:131")),
+    (False, True, True): (lock("00:1f:0"),), (True, True, False): (lock("00:26:131"), lock("00:00:131")),
 }
-
-# A list without an end.
-ENDLESS = None
 
 # How many milliseconds pass before a wait ends, by the cause reported then, and how many more at most: where time
 # passes by sleeps alone, which is also the most that is slept for a lock that is there once, and by looks at the clock.
 WAITS = {"in use": 10_000, "in the way": 1_000}
 MOMENT, MORE = 100, 2_000
 
-# How often the list of locks is read in each look.
-READINGS = 5
+# A list without an end, and how often the list of locks is read in each look.
+ENDLESS, READINGS = None, 5
 
 # Saves, how often each looks for locks, and those that it waits for. In place one that makes the file longer looks
 # once more.
@@ -95,8 +90,7 @@ def check_readings(report: Report, under: Preloaded) -> None:
             for nth in range(1, looks * READINGS + 2):
                 faults = faults_of_save(seen(under, {str(nth): lock}, one=case), nth <= looks * READINGS, case)
                 report.check(f"a lock to {lock.split()[3].decode()} in reading {nth}: {case.name}", faults)
-    got = seen(under, {str(2 * READINGS): ENDLESS})
-    report.check("a list without an end, once", faults_of_save(got, True))
+    report.check("a list without an end, once", faults_of_save(seen(under, {str(2 * READINGS): ENDLESS}), True))
 
 
 def check_lines(report: Report, under: Preloaded) -> None:
@@ -106,8 +100,7 @@ def check_lines(report: Report, under: Preloaded) -> None:
     """
     for waits, lines in LOCK_LINES.items():
         for line, (lists, is_waited) in product(lines, zip(({}, {"mountinfo": b""}, {"fdinfo": b""}), waits)):
-            got = seen(under, {"1": line, **lists})
-            report.check(f"{line}, without {[*lists]}", faults_of_save(got, is_waited))
+            report.check(f"{line}, without {[*lists]}", faults_of_save(seen(under, {"1": line, **lists}), is_waited))
 
 
 def check_ends(report: Report, under: Preloaded) -> None:
@@ -128,17 +121,7 @@ def check_two_waits(report: Report, under: Preloaded) -> None:
     report.check("two long waits", faults + faults_of_save(got, False))
 
 
-def check_two_files(report: Report, under: Preloaded) -> None:
-    """Checks that of two files each is waited for as if it were alone."""
-    one = undisturbed("ktremove -p b@R k j", k=TWO, j=TWO)
-    got, most = seen(under, {"locks": LOCK}, one=one), 2 * (WAITS["in use"] + MOMENT)
-    faults = differences(Outcome(3, err=b"krbfile: k: cannot write\nkrbfile: j: cannot write\n"), got.outcome)
-    faults += [] if got.files == one.files else ["other files"]
-    faults += [] if 2 * WAITS["in use"] <= got.passed <= most else [f"it took {got.passed} ms"]
-    report.check("waits for two files", faults)
-
-
 def check(report: Report, program: str) -> None:
     if under := preloaded(report, program, "lists of locks"):
-        for each in (check_readings, check_lines, check_ends, check_two_waits, check_two_files):
+        for each in (check_readings, check_lines, check_ends, check_two_waits):
             each(report, under)

@@ -28,11 +28,9 @@ TALK = undisturbed("ktutil", b"rkt j\nwkt k\nfrob\nwkt FILE:k\n", j=keytab(B), k
                    name="adds, is at fault, and is refused")
 CASES_OF_ALL = (*CHANGES_OF_ALL, TALK)
 
-# Where a run is halted: at the last reading of the locks, and behind its rename.
+# Where a run is halted: at the last reading of the locks, and behind its rename. And in place: when its bytes are
+# written over, cut off, and synced, and at the last reading of the locks of one that grows.
 WATCHED, RENAMED = Halt("openat", 2 * READINGS, ("/proc/locks",)), Halt("?rename,?renameat,?renameat2")
-
-# And in place: when its bytes are written over, cut off, and synced, and at the last reading of the locks of one
-# that grows.
 WRITTEN, CUT, SYNCED = Halt("pwrite64"), Halt("ftruncate"), Halt("fsync")
 COMPARED = Halt("lseek", 2)
 

@@ -8,7 +8,7 @@ import resource
 import subprocess
 from collections.abc import Iterator
 
-from caches import cache_files, greatest_caches
+from caches import greatest_caches
 from keytabs import copies, greatest
 from keytabs.file_names import LIMIT, sized
 from runs.commands import COMMANDS
@@ -22,13 +22,10 @@ BREAKS = ("crates/krb_wire/src/memory.rt", "crates/krb_wire/src/limits.rt", "cra
 STACK = 256 * 1024
 SPACE = 64 * 1024 * 1024
 
-# How many of the greatest files a run checks, and the memory for it, which is less than that of the files.
+# How many of the greatest files a run checks, and the memory for it, which is less than that of the files. The last
+# line of a hold without memory, and the commands that may print, or save, a part of what they do.
 MANY, ROOM = 40, 256 * 1024 * 1024
-
-# The last line of a hold without memory.
 HOLD_SPENT = last_line("ENOMEM", 4)
-
-# The commands that may print, or save, a part of what they do.
 PARTLY = ("ktutil", *(name for name, command in COMMANDS.items() if command.prints_early))
 
 
@@ -45,20 +42,13 @@ def is_early(case: Case, got: Outcome, after: dict[str, bytes]) -> bool:
     return files_are_whole and is_front and (has_done_nothing or case.words[0] in PARTLY or "--json" in case.words)
 
 
-def all_cases() -> list[Case]:
-    """Returns the cases of keytabs, scripts and ktutil, and those of caches."""
-    return [*greatest.reads(), *greatest.edits(), *greatest.talks(), *cache_files.sizes(), *cache_files.large(),
-            *greatest_caches.reads(), *greatest_caches.edits()]
-
-
 def faults_in(program: str, case: Case, kind: int, most: int) -> list[str]:
     """Returns the faults of a run of a case that may have at most that much of a resource."""
     try:
         got, after = run_case(program, case, preexec_fn=limit(kind, most))
     except subprocess.TimeoutExpired:
         return [f"no end in {SECONDS} seconds"]
-    may_be_early = kind == resource.RLIMIT_AS
-    return [] if may_be_early and is_early(case, got, after) else faults_of(case, got, after)
+    return [] if kind == resource.RLIMIT_AS and is_early(case, got, after) else faults_of(case, got, after)
 
 
 def of_many() -> Iterator[Case]:
@@ -75,10 +65,9 @@ def check(report: Report, program: str) -> None:
     for case, most in (*((each, ROOM) for each in of_many()), (greatest.lines(), 12 * LIMIT),
                        (copies.of_long_name(), SPACE)):
         report.check(case.name, faults_of(case, *run_case(program, case, preexec_fn=limit(resource.RLIMIT_AS, most))))
-    those = all_cases()
+    those = [*greatest.reads(), *greatest.edits(), *greatest.talks(), *greatest_caches.listings(),
+             *greatest_caches.reads(), *greatest_caches.edits()]
     for case in those:
-        faults = faults_in(program, case, resource.RLIMIT_STACK, STACK)
-        report.check(f"{case.name}, on a stack of 256 KB", faults)
+        report.check(f"{case.name}, on a stack of 256 KB", faults_in(program, case, resource.RLIMIT_STACK, STACK))
     for case in (*those, *copies.of_many()):
-        faults = faults_in(program, case, resource.RLIMIT_AS, SPACE)
-        report.check(f"{case.name}, in 64 MB of memory", faults)
+        report.check(f"{case.name}, in 64 MB of memory", faults_in(program, case, resource.RLIMIT_AS, SPACE))

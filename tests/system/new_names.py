@@ -41,13 +41,10 @@ def owned_by(owner: int, mode: int = 0o600) -> Place:
 
 # What no killed run leaves.
 STRANGE: list[tuple[str, Place]] = [
-    ("an empty folder", os.mkdir),
-    ("a folder", filled),
-    ("a link to a file", lambda path: os.symlink("other", path)),
+    ("an empty folder", os.mkdir), ("a folder", filled), ("a link to a file", lambda path: os.symlink("other", path)),
     ("a link to the file", lambda path: os.symlink(os.path.basename(own(path)), path)),
     ("a link that dangles", lambda path: os.symlink("no", path)),
-    ("a link to itself", lambda path: os.symlink(os.path.basename(path), path)),
-    ("a pipe", os.mkfifo),
+    ("a link to itself", lambda path: os.symlink(os.path.basename(path), path)), ("a pipe", os.mkfifo),
     ("another name of a file", lambda path: os.link(os.path.join(os.path.dirname(path), "other"), path)),
     ("another name of the file", lambda path: os.link(own(path), path)),
 ]

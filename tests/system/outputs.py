@@ -7,7 +7,6 @@ pieces.
 import os
 import signal
 import socket
-import subprocess
 from dataclasses import replace
 from functools import partial
 from itertools import product
@@ -15,7 +14,7 @@ from itertools import product
 from keytabs.conversations import stop
 from makers.images import B, HOST, TWO, Entry, keytab
 from runs.commands import CHANGES, COMMANDS, LEAVES, READS, both_ways, mixed_cache, mixed_keytab, small_runs
-from runs.harness import SECONDS, Outcome, Report, differences, every, folder_of, run_case
+from runs.harness import SECONDS, Outcome, Report, differences, every, folder_of, piped, run_case
 from runs.undisturbed import Undisturbed, undisturbed
 from system.early_ends import End, Ends
 from system.failing_streams import NO_OUTPUT, ends_in_output
@@ -37,17 +36,11 @@ TALKS = (
 LONGEST, MESSAGE = 32_768 + 2_000, 1 << 20
 
 
-def piped(program: str, case: Undisturbed, folder: str, **more) -> subprocess.Popen[bytes]:
-    """Makes a run whose outputs are pipes."""
-    return subprocess.Popen([program, *case.words], cwd=folder, stdin=subprocess.DEVNULL, stdout=subprocess.PIPE,
-                            stderr=subprocess.PIPE, **more)
-
-
 def check_closed_pipe(report: Report, program: str) -> None:
     """Closes the reader after some bytes: the write fails, since the program ignores SIGPIPE in each case."""
     for action, taken in product((signal.SIG_DFL, signal.SIG_IGN), (0, 1, 20, 1000, 70_000)):
         options = {"preexec_fn": partial(signal.signal, signal.SIGPIPE, action)}
-        with folder_of(LONG.files) as folder, piped(program, LONG, folder, **options) as started:
+        with folder_of(LONG.files) as folder, piped(program, LONG.words, folder, **options) as started:
             out = started.stdout.read(taken)
             started.stdout.close()
             err = started.stderr.read()
@@ -58,7 +51,7 @@ def check_closed_pipe(report: Report, program: str) -> None:
 
 def check_stopped(report: Report, program: str) -> None:
     """Stops klist while it waits for a reader of its output: it goes on as if nothing had happened."""
-    with folder_of(LONG.files) as folder, piped(program, LONG, folder) as started:
+    with folder_of(LONG.files) as folder, piped(program, LONG.words, folder) as started:
         stop(started.pid)
         out, err = started.communicate(timeout=SECONDS)
     report.compare("klist is stopped and continued at a full pipe", LONG.wanted, Outcome(started.returncode, out, err))
@@ -97,10 +90,7 @@ def check_lost(report: Report, program: str) -> None:
 def pieces_of(program: str, case: Undisturbed, stream: str = "stdout") -> tuple[Outcome, list[int]]:
     """Makes a run with a socket as one output, and returns the length of each write to it."""
     ours, theirs = socket.socketpair(socket.AF_UNIX, socket.SOCK_SEQPACKET)
-    with folder_of(case.files) as folder, ours, subprocess.Popen(
-        [program, *case.words], cwd=folder, stdin=subprocess.DEVNULL,
-        **{"stdout": subprocess.PIPE, "stderr": subprocess.PIPE, stream: theirs},
-    ) as started:
+    with folder_of(case.files) as folder, ours, piped(program, case.words, folder, **{stream: theirs}) as started:
         theirs.close()
         parts = [*iter(lambda: ours.recv(MESSAGE), b"")]
         out, err = (other.read() if other else b"".join(parts) for other in (started.stdout, started.stderr))

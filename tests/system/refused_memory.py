@@ -16,25 +16,19 @@ from system.early_ends import NO_MEMORY, Ends
 
 BREAKS = ("crates/krb_wire/src/memory.rt", "crates/wiping", "crates/krb_commands")
 
-# How many allocations of a run are refused: over larger files some, and over small ones all.
+# How many allocations of a run are refused: over larger files some, and over small ones all. The settings that refuse
+# one, and those that refuse all from it on.
 SOME, ALL = 45, 5_000
-
-# The settings that refuse one allocation, and those that refuse all from it on.
 WAYS = {"once": {}, "from it on": {"REFUSE_LASTS": 1}}
 
-# A check that explains what it finds, with hints.
+# A check that explains what it finds, with hints, and the cache of a user whose environment names none.
 EXPLAINED = at_now((EXPLAIN, "ktcheck", "a b", "r", "no"), **{"a b": keytab(HOST, HOST), "r": rotated_keytab(4)})
-
-# The cache of a user whose environment names none.
 OWN = f"/tmp/krb5cc_{os.getuid()}"
 
 # Lines that leave out the file, with the environment, and the file that they are for.
 DEFAULTS = (
-    ("klist", {"KRB5CCNAME": "FILE:c"}, "c"),
-    ("klist -s", {"KRB5CCNAME": "c"}, "c"),
-    ("klist -k", {"KRB5_KTNAME": "k"}, "k"),
-    ("ktcheck -q", {"KRB5_KTNAME": "KCM:k"}, "KCM:k"),
-    ("klist", {}, OWN),
+    ("klist", {"KRB5CCNAME": "FILE:c"}, "c"), ("klist -s", {"KRB5CCNAME": "c"}, "c"),
+    ("klist -k", {"KRB5_KTNAME": "k"}, "k"), ("ktcheck -q", {"KRB5_KTNAME": "KCM:k"}, "KCM:k"), ("klist", {}, OWN),
     ("klist -s", {}, OWN),
 )
 
@@ -72,8 +66,7 @@ def check_run(report: Report, under: Preloaded, ends: Ends, most: int = ALL, **e
     for way, settings in WAYS.items():
         faults = []
         for nth in spread(whole.requests, most):
-            got = under.run(ends.run, CLOCK=NOW, REFUSE=nth, **settings, **env)
-            faults += faults_of(ends, nth, got, may_print)
+            faults += faults_of(ends, nth, under.run(ends.run, CLOCK=NOW, REFUSE=nth, **settings, **env), may_print)
         report.check(f"memory refused {way}: {ends.run.name}", faults[:3])
 
 

@@ -17,14 +17,10 @@ BREAKS = ("crates/krb_disk/src/replacing.rt", "crates/krb_disk/src/target.rt")
 
 # The calls after which a run is halted, each under a name.
 HALTS = {
-    "look": Halt("?statx,?newfstatat,?lstat,?lstat64", paths=("file",)),
-    "making": Halt("openat", paths=("k.krbfile",)),
-    "finding": Halt("openat", 2, ("k.krbfile",)),
-    "opening": Halt("openat", paths=("k", "file")),
-    "missing": Halt("?statx,?newfstatat,?lstat,?lstat64", 2, ("k",)),
-    "load": Halt("read", 2, ("k", "file")),
-    "writing": Halt("write"),
-    "syncing": Halt("fsync"),
+    "look": Halt("?statx,?newfstatat,?lstat,?lstat64", paths=("file",)), "making": Halt("openat", paths=("k.krbfile",)),
+    "finding": Halt("openat", 2, ("k.krbfile",)), "opening": Halt("openat", paths=("k", "file")),
+    "missing": Halt("?statx,?newfstatat,?lstat,?lstat64", 2, ("k",)), "load": Halt("read", 2, ("k", "file")),
+    "writing": Halt("write"), "syncing": Halt("fsync"),
 }
 
 
@@ -78,13 +74,9 @@ def check_change(report: Report, program: str, call: str, of: tuple[str, bool, P
         if is_there:
             write(os.path.join(folder, "k"), OLD)
         wanted: dict[str, object] = {}
-
-        def change_and_look(folder: str) -> None:
-            change(folder)
-            wanted.update(known(folder))
-
         adds = undisturbed(("ktedit", *options, "k"), SCRIPT)
-        faults = differences(UNSAVED, halted(program, adds, folder, HALTS[call], change_and_look))
+        faults = differences(UNSAVED, halted(program, adds, folder, HALTS[call], lambda folder: (
+            change(folder), wanted.update(known(folder)))))
         if known(folder) != wanted or NEW in tree(folder).values():
             faults.append(f"{[*tree(folder)]} are there, or are not as they were")
     report.check(f"{what}, behind the {call} of a run {' '.join(options)}", faults)
@@ -106,32 +98,22 @@ def check_changes(report: Report, program: str) -> None:
         check_change(report, program, "syncing", of, IN_PLACE)
 
 
-def check_while(report: Report, program: str, case: Case, call: str, change: Place, *places: Place) -> None:
-    """Checks a case that is halted after a system call while a change is made."""
-    one = replace(case, name=f"{case.name}, behind the {call} of {' '.join(case.words)}")
-    check_over(report, program, one, *places, make=lambda *run: halted(*run, HALTS[call], change))
-
-
-def check_names(report: Report, program: str) -> None:
-    """Checks that a save in place is refused whose file has lost its name when it is synced, also where it does not
-    grow, so that it was not looked at before."""
-    case = Case("", ("ktedit", IN_PLACE, "k"), UNSAVED, {"k": NEW, "other": B_OLD}, stdin=b"cut 2\n")
-    led = named("k", lambda path: os.symlink("other", path))
-    for what, cause, change, after in (("another file", "other file", OTHER, {"k": B_OLD}),
-                                       ("a link to another file", "other file", led, {"k": "other"}),
-                                       ("no file any more", "no file", GONE, {"k": None})):
-        for one in (case, refused(case, cause)):
-            check_while(report, program, replace(one, name=what, files_after=after), "syncing", change)
-
-
 def added(name: str, wanted: Outcome, files: dict[str, bytes], after: dict[str, object], *options: str) -> Case:
     """Returns a run that adds an entry, and what is in its folder then."""
     return Case(name, ("ktedit", *options, "k"), wanted, files, after, SCRIPT)
 
 
+# A removal in place, whose file does not grow, so that it is not looked at before it is synced.
+CUTS = Case("", ("ktedit", IN_PLACE, "k"), UNSAVED, {"k": NEW, "other": B_OLD}, stdin=b"cut 2\n")
+
 # Runs while which others change the name of their file: each with the call behind which that happens, the change, and
 # what is made before.
 MOVED: list[tuple[Case, str, Place, *tuple[Place, ...]]] = [
+    # A save in place whose file has lost its name when it is synced.
+    *((replace(one, name=what, files_after=after), "syncing", change) for what, cause, change, after in (
+        ("another file", "other file", OTHER, {"k": B_OLD}), ("no file any more", "no file", GONE, {"k": None}),
+        ("a link to another file", "other file", named("k", lambda path: os.symlink("other", path)), {"k": "other"}))
+      for one in (CUTS, refused(CUTS, cause))),
     # A link that changes: the file that was loaded is saved, and no other gets its keys.
     *((added(f"{what} in place of a link", SAVED, {"file": OLD, "other": OLD},
              {"file": NEW, "k": left}), call, named("k", make), LINK)
@@ -156,9 +138,11 @@ MOVED: list[tuple[Case, str, Place, *tuple[Place, ...]]] = [
 
 
 def check_moved(report: Report, program: str) -> None:
-    """Checks each of those runs."""
-    for row in MOVED:
-        check_while(report, program, *row)
+    """Checks each of those runs, which is halted after a system call while a change is made."""
+    for case, call, change, *places in MOVED:
+        one = replace(case, name=f"{case.name}, behind the {call} of {' '.join(case.words)}")
+        check_over(report, program, one, *places,
+                   make=lambda *run, call=call, change=change: halted(*run, HALTS[call], change))
 
 
-check = every(check_changes, check_names, check_moved, of="files that are changed meanwhile", needs=("strace",))
+check = every(check_changes, check_moved, of="files that are changed meanwhile", needs=("strace",))

@@ -19,13 +19,9 @@ from words.phrases import AFTERMATHS, CAUSES, ERRORS
 B_OLD, B_NEW, B_SAVED = keytab(B), keytab(B, HOST), Outcome(0, b"placed 47\n")
 UNSAVED, UNREAD = message(3, "k: cannot write"), message(3, "k: cannot read")
 
-# Lines of ktutil that add an entry to its list.
+# Lines of ktutil that add an entry, a user who is not root, a group that user may be in, and an entry that is longer.
 LINES = text([ADDENT, KEY])
-
-# A user who is not root, and a group that user may be in.
 USER, GROUP = 65_534, 54_321
-
-# An entry that is longer than those of the keytab.
 ADD_LONG = b"add 3 17 1700000000 000102030405060708090a0b0c0d0e0f a/long/name@R\n"
 
 # Runs that make the file longer, that change old bytes too, and that keep its length or make it shorter.
@@ -35,10 +31,8 @@ EQUAL = undisturbed("ktedit k", b"cut 2\n", k=TWO, name="removes")
 SHORTER = undisturbed("ktedit k", b"rewrite\n", k=keytab(60, HOST, 41, B), name="rewrites")
 CUT_OFF = undisturbed("ktedit k", b"rewrite\n", k=keytab(HOST, 41), name="drops the hole at the end")
 
-# Runs that can save in place, without that.
+# Runs that can save in place, without that, and the last line of a hold that saved.
 PLACED = (LONGER, MIXED, EQUAL, SHORTER, CUT_OFF, *CHANGES)
-
-# The last line of a hold that saved.
 HOLD_SAVED = b"saved\n"
 
 # What makes something in a folder.

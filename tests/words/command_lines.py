@@ -1,12 +1,11 @@
 """Command lines: bundled, repeated, late and long options, help, the version, and lines that are refused."""
 
-import subprocess
-
 from keytabs.listings import sample
 from makers.images import B, TWO, USUAL, keytab
 from makers.samples import SAMPLES
 from runs.commands import CHANGES, COMMANDS, READS
-from runs.harness import BAD_LINE, Case, Help, Line, Outcome, Report, every, message, printed, run_case, shown, words_of
+from runs.harness import (BAD_LINE, TOP, Case, Line, Outcome, Report, differences, every, message, printed, run,
+                          run_case, shown, words_of)
 
 BREAKS = ("crates/krbfile", "crates/krb_driver/src/command_line", "crates/krb_driver/src/command_line.rt")
 
@@ -55,8 +54,7 @@ SAME: dict[str, str] = {
     "klist -cefC d": "klist --cache --flags --enctypes --config d, klist -fCec d",
     "klist -s d": "klist --silent d, klist d --cache --silent", "klist -s c": "klist --silent c",
     "klist -l c d": "klist --list c d, klist c -l d --cache -l, klist -lc -- DIR::c FILE:d",
-    "klist -l --json c d": "klist --json -c c --list d",
-    "klist -k k m": "klist k -k m, klist -k -- k FILE:m",
+    "klist -l --json c d": "klist --json -c c --list d", "klist -k k m": "klist k -k m, klist -k -- k FILE:m",
     "ktfind k 0 0 b@R": "ktfind k 3 17 b@R, ktfind k 0000000003 0000000017 b@R, ktfind k 0 AES128-cts b@R, "
                         "ktfind --v1-big k 0 0 b@R --v1-big, ktfind -- k 0 0 b@R, ktfind k 0 0 -- b@R",
     "ktedit k": "ktedit k --v1-big, ktedit -- k, ktedit k --in-place --v1-big --in-place",
@@ -77,17 +75,16 @@ SAME: dict[str, str] = {
     "ktcheck -q k m": "ktcheck --quiet k m", "ktcheck --json -q k m": "ktcheck --quiet --json -H k m",
     "ktcheck -H --older 1m --want b@R --want host/a@R m": r"ktcheck --older=60 m --with-filename --want=\host/a@R, "
                                                           "ktcheck -HH --want b@R --older 60s -- FILE:m",
-    "--version": "-V, --version klist, -V klist -x, --explain -V",
-    "--help": "-h, help, --explain help",
+    "--version": "-V, --version klist, -V klist -x, --explain -V", "--help": "-h, help, --explain help",
     **{f"{name} --help": ", ".join((
         f"help {name}, {name} -h, --explain help {name}",
         *(f"{' '.join(run.words)} -h" for run in (*READS, *CHANGES) if run.words[0] == name))) for name in COMMANDS},
 }
 
-# The defaults that help names.
-DEFAULTS = {"klist": (b"KRB5CCNAME", b"KRB5_KTNAME", b"/etc/krb5.keytab", b"/tmp/krb5cc_"),
-            "ktcheck": (b"KRB5_KTNAME", b"/etc/krb5.keytab")}
-
+# What help names: the commands, each its own, and defaults. And the toolchain that the version names.
+HELP = {**{f"{command} --help": f"krbfile {command}" for command in COMMANDS}, "--help": " ".join(COMMANDS),
+        "klist -h": "KRB5CCNAME KRB5_KTNAME /etc/krb5.keytab /tmp/krb5cc_",
+        "ktcheck -h": "KRB5_KTNAME /etc/krb5.keytab"}
 TOOLCHAIN = "logic dac8208d650f15bf"
 
 FILES = {"k": TWO, "t": keytab(B), "c": USUAL, "r": SAMPLES["rotated.keytab"], "m": SAMPLES["mixed.keytab"],
@@ -106,8 +103,6 @@ CASES = [
     # A keytab is not a cache and a cache not a keytab; -e is an option of both.
     case("klist -e k", message(1, "k: not a cache (2)")), case("klist -ke c", message(1, "c: not a keytab (2)")),
     case("--version", printed(f"krbfile 1.0 (rattle {TOOLCHAIN})")),
-    Help("--help", (b"krbfile", *map(str.encode, COMMANDS))),
-    *(Help(f"{command} --help", (f"krbfile {command}".encode(), *DEFAULTS.get(command, ()))) for command in COMMANDS),
 ]
 
 
@@ -119,11 +114,19 @@ def check_same(report: Report, program: str) -> None:
             case(other, wanted, **after).check(report, program)
 
 
+def check_help(report: Report, program: str) -> None:
+    """Prints help, which ends with a newline, on the output."""
+    for line, words in HELP.items():
+        got, _ = run_case(program, case(line, Outcome(0)))
+        missing = [f"no {word}" for word in words.split() if word not in got.out.decode()]
+        report.check(f"help: {shown(line)}", differences(Outcome(0, got.out.rstrip(b"\n") + b"\n"), got) + missing)
+
+
 def check_toolchain(report: Report, _program: str) -> None:
     """Compares the toolchain's name with what it prints of itself, after the name of its kit."""
-    output = subprocess.run(["rt", "version"], capture_output=True, text=True, check=False).stdout
+    output = run("rt", ("version",), TOP).out.decode()
     named = output.strip().partition(" ")[2]
     report.check("the toolchain of the version", [] if named == TOOLCHAIN else [f"it is {output!r}"])
 
 
-check = every(check_same, every(check_toolchain, of="the toolchain of the version", needs=("rt",)))
+check = every(check_same, check_help, every(check_toolchain, of="the toolchain of the version", needs=("rt",)))

@@ -6,7 +6,7 @@ import re
 from functools import cache, partial
 
 from keytabs.listings import BY_NAME
-from makers.samples import folder_of_samples
+from makers.samples import make
 from pages.readme import installed
 from runs.commands import CHANGES
 from runs.harness import TOP, Report, every, folder_of, run
@@ -43,8 +43,7 @@ SHELLS = {"bash": ("-c", BASH, "bash-completion/completions/krbfile"),
 LINES = {
     "klist -k --v": {"--v1-big"}, "--explain klist --js": {"--json"}, "--explain ktr": {"ktremove"},
     "help kte": {"ktedit"}, "ktfind --v1-big k 0 ": {*BY_NAME}, "ktcheck --allow ": {*FINDINGS}, "klist ": {"k"},
-    "ktdiff ": {"k"}, "ktdiff k ": {"k"}, "ktcopy --a": {"--as"},
-    "ktcheck --w": {"--want", "--with-filename"},
+    "ktdiff ": {"k"}, "ktdiff k ": {"k"}, "ktcopy --a": {"--as"}, "ktcheck --w": {"--want", "--with-filename"},
     **{" ".join((*run.words[:-1], "")): {"k"} for run in CHANGES if run.words[1:]},
     "ktremove -k ": {"old"}, "ktcopy --kvno ": {"new"}, "ktcopy k -e ": {*BY_NAME},
     "ktremove --enctype aes256-cts-hmac-sha1": {"aes256-cts-hmac-sha1-96"},
@@ -78,7 +77,8 @@ def check_ends(report: Report, program: str) -> None:
         statuses, _, example = END.search(helped(program, command)).groups()
         listed = "".join(line.split()[0] for line in statuses.splitlines())
         report.check(f"the statuses of krbfile {command} --help", [] if listed == STATUSES else [f"it lists {listed}"])
-        with folder_of_samples() as folder, installed(program) as env:
+        with folder_of({}) as folder, installed(program) as env:
+            make(folder)
             got = run("sh", ("-c", example), folder, env=env)
         is_right = f"krbfile {command} " in f"{example} " and (got.status, got.err) == (0, b"")
         report.check(f"the example of krbfile {command} --help", [] if is_right else [f"{example} ends with {got}"])

@@ -12,8 +12,7 @@ from keytabs.edits import ADD_HOST
 from keytabs.file_names import LIMIT
 from keytabs.ktutil_lines import KEY
 from makers.images import B, TWO, USUAL, keytab
-from runs.harness import EXPLAIN, Report, folder_of, run
-from runs.terminal import WAYS, run_on_terminal
+from runs.harness import Report, folder_of, run
 from words.explaining import case, copy, failed, link, no_keytab
 from words.phrases import (BEGINS_AS_CACHE, CAUSES, CLASH, LARGE, OTHER_FILES, SEE_HELP, SHORT, TO_REPLACE, code,
                            line_fault, unknown)
@@ -21,6 +20,9 @@ from words.phrases import (BEGINS_AS_CACHE, CAUSES, CLASH, LARGE, OTHER_FILES, S
 BREAKS = ("crates/krb_driver",)
 
 ADD = f"{ADD_HOST}\n".encode()
+
+# The options of a run whose input is a folder, which nothing can be read from.
+NO_INPUT = {"preexec_fn": lambda: os.dup2(os.open(".", os.O_RDONLY), 0)}
 
 
 def socket_in(folder: str) -> None:
@@ -56,13 +58,15 @@ CASES = [
     failed(("klist", "-k", "l"), "read", "ELOOP", TWO, setting=link("l")),
     failed(("klist", "-k", "s"), "read", f"error {ENXIO}", TWO, setting=socket_in),
     failed(("ktedit", "l"), "write", "bad link", None, stdin=ADD, setting=link(b"\xff")),
-    # Large scripts.
+    # Inputs that fail, and large scripts.
+    *(case(f"{line} < .", line, TWO, ("cannot read input", CAUSES["EISDIR"]), status=3, out=b"", options=NO_INPUT)
+      for line in ("ktutil", "ktedit k", "ccedit k")),
     *(partial(case, f"{command}: a large script", f"{command} k", None, ("input too large", LARGE),
               stdin=bytes(LIMIT + 1)) for command in ("ktedit", "ccedit")),
 ]
 
 
-def check_told(report: Report, program: str) -> None:
+def check(report: Report, program: str) -> None:
     """Sets KRBFILE_EXPLAIN: `klist -s` prints nothing with it too."""
     rows = (case("a listing", "klist -k k", b"", no_keytab(SHORT)), case("a question", "klist -s k", b""),
             case("a bad line", "x", b"", ("bad command line", "unknown command x; see krbfile --help"), status=2))
@@ -70,18 +74,3 @@ def check_told(report: Report, program: str) -> None:
         with folder_of(row.files) as folder:
             got = run(program, row.words, folder, env={**os.environb, b"KRBFILE_EXPLAIN": value})
         report.compare(f"{value!r} in the environment, {row.name}", row.wanted(value not in (b"0", b""), b""), got)
-
-
-def check(report: Report, program: str) -> None:
-    """Checks the environment, and an input and an output that fail."""
-    check_told(report, program)
-    for line, redirection, *errors in (("klist -k k", "> /dev/full", "cannot write output", CAUSES["ENOSPC"]),
-                                       *((line, "< .", "cannot read input", CAUSES["EISDIR"])
-                                         for line in ("ktutil", "ktedit k", "ccedit k"))):
-        row = case(f"{line} {redirection}", line, TWO, tuple(errors), status=3)
-        for way, (make, explains) in WAYS.items():
-            words = (*[EXPLAIN] * (way == EXPLAIN), *row.words)
-            with folder_of(row.files) as folder:
-                got = (run_on_terminal if make is run_on_terminal else run)(
-                    "sh", ("-c", f'exec "$0" {redirection} "$@"', program, *words), folder)
-            report.compare(f"{row.name}, {way}", row.wanted(explains, b""), got)

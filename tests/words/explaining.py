@@ -9,10 +9,8 @@ from runs.harness import Line, Outcome, Report, differences, files_in, folder_of
 from runs.terminal import WAYS
 from words.phrases import CAUSES, code
 
-# A damaged cache.
+# A damaged cache; and messages, each with its explanation or an empty text.
 CUT_CACHE = USUAL + b"\0"
-
-# Messages, each with its explanation or an empty text.
 Output = tuple[tuple[str, str], ...]
 
 # The options of a run whose output takes nothing, and what is said of that.
@@ -64,6 +62,14 @@ def case(name: str, line: str | Line, image: bytes | None, *output: tuple[str, s
          **more) -> Explained:
     """Returns a run over that file, or over none."""
     return Explained(name, words_of(line), output, {} if image is None else {file: image}, **more)
+
+
+def over_files(command: str, line: str | Line, files: dict[str, bytes], out: bytes, *output: tuple[str, str],
+               **more) -> Explained:
+    """Returns a run of a command over some of those files, its output and its messages. It leaves the files, and ends
+    with status 0, unless `more` has others."""
+    words = (*command.split(), *words_of(line))
+    return Explained(shown(words), words, output, files, out=out, **{"status": 0, "after": files, **more})
 
 
 def unchanged(line: str | Line, *output: tuple[str, str], files: dict[str, bytes] | None = None, stdin: bytes = b"",

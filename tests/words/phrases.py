@@ -53,10 +53,8 @@ _, BEGINS_AS_KEYTAB, HELD_AS_KEYTAB, SHOWN_AS_NEITHER, BEGINS_AS_NO_CACHE, BAD_H
 # What a file is instead, by its first bytes.
 OTHER_FILES = displayed("In place of the last two of 2 a file that is known by its first bytes is named:")
 
-# The library's refusal of an image that is too long: the program says `file too large`.
+# The library's refusal of an image that is too long: the program says `file too large`. Why a text is not a name.
 TOO_LONG = "it is longer than the limit"
-
-# Why a text is not a name.
 NAMES = {1: "no realm", 2: "a backslash at the end", 3: "a second @", 4: "a / in the realm"}
 
 # Why a call failed: the system's errors by their names, and what krbfile itself finds. And the names that hold has for
@@ -68,11 +66,9 @@ CAUSES, ERRORS = (dict(zip((
         r"^\.It (.*) Ta (E\w+)$", PAGE.replace("Ar NAME Ns ", "NAME").replace("Ar number", "NUMBER"), re.MULTILINE),
         strict=True))
 
-# Lines of ktutil that ask for what it does not do, or for its commands.
+# Lines of ktutil that ask for what it does not do, or for its commands; the library's phrase for what is in the way.
 NO_PASSWORDS = "keys are not made from passwords here"
 SEE_HELP = "see krbfile ktutil --help"
-
-# The library's phrase for what is in the way, as it has no name.
 LIBRARY_IN_THE_WAY = "the name of its new file is taken"
 
 # What a save left behind.

@@ -6,7 +6,7 @@ import subprocess
 from keytabs.conversations import terminal
 from keytabs.ktutil_lines import KEY
 from makers.images import TWO, USUAL
-from runs.harness import SECONDS, Outcome, Report, folder_of
+from runs.harness import SECONDS, Outcome, Report, folder_of, piped
 from runs.terminal import all_of
 from words.phrases import NO_ENTRY, NO_PASSWORDS
 
@@ -20,8 +20,7 @@ FAULT = f"krbfile: line 1: fault 2\nkrbfile: line 1: {NO_PASSWORDS}\n"
 
 # Words, what is typed, and what is on the terminal then, which does not show what is typed.
 TYPED = (
-    ("ktutil", "q\n", COMMAND),
-    ("ktutil", f"\nl\n{END}", COMMAND * 3 + "\n"),
+    ("ktutil", "q\n", COMMAND), ("ktutil", f"\nl\n{END}", COMMAND * 3 + "\n"),
     ("ktutil", f"{ADD}{KEY}\nexit\n", COMMAND + KEY_PROMPT + COMMAND),
     ("ktutil", f"{ADD}{END}{END}", COMMAND + KEY_PROMPT + "\n"),
     ("ktutil", f"{FROM_PASSWORD}quit\nq\n", COMMAND + FAULT + PASSWORD + COMMAND),
@@ -39,8 +38,7 @@ def typed(program: str, words: str, lines: str, folder: str, shows_errors: bool)
     os.write(ours, lines.encode())
     errors = theirs if shows_errors else subprocess.PIPE
     try:
-        with subprocess.Popen([program, *words.split()], cwd=folder, stdin=theirs, stdout=subprocess.PIPE,
-                              stderr=errors) as process:
+        with piped(program, words.split(), folder, stdin=theirs, stderr=errors) as process:
             os.close(theirs)
             out, err = process.communicate(timeout=SECONDS)
         return Outcome(process.returncode, out, all_of(ours) if shows_errors else err)
