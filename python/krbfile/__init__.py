@@ -32,5 +32,4 @@ from krbfile.library import ETYPES, KrbfileError, NotFound
 __all__ = ["Cache", "ETYPES", "Entry", "Keytab", "KrbfileError", "LostChange", "NotFound", "PROGRAM", "Ticket",
            "UnknownSave", "edit_cache", "edit_keytab"]
 
-# The path of the program, unless it is to be found elsewhere.
-PROGRAM: AnyPath | None = None
+PROGRAM: AnyPath | None = None  # the path of the program, unless it is to be found elsewhere

@@ -21,8 +21,7 @@ from krbfile.keytab import Keytab
 from krbfile.library import KrbfileError, number
 from krbfile.origin import beside
 
-# The program of the archive, or the repository, that this module is a part of.
-BESIDE = beside("bin", "krbfile")
+BESIDE = beside("bin", "krbfile")  # the program of the archive, or the repository, that this module is a part of
 
 # The program's last line, if nothing was saved: its status, and a number of krbfile.h or the name of a cause.
 FAILED = re.compile(r"failed (\d+) (?:(\d+)|(E[A-Z]+))")
@@ -134,8 +133,7 @@ class Hold:
             each.close()
 
 
-# The holds of this process, unless nothing else has them any more. A forked child closes its copies.
-_holds: WeakSet[Hold] = WeakSet()
+_holds: WeakSet[Hold] = WeakSet()  # the holds that something else still has; a forked child closes its copies
 os.register_at_fork(after_in_child=lambda: [hold.forget() for hold in [*_holds]])
 
 

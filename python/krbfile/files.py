@@ -11,12 +11,9 @@ from typing import Union
 AnyPath = Union[str, bytes, "os.PathLike[str]", "os.PathLike[bytes]"]
 FileName = Union[str, bytes]
 
-# The types that are taken off a name, of keytabs and of caches; and how a name of any type begins.
-TYPES = {"kt": (b"FILE:", b"WRFILE:"), "cc": (b"FILE:", b"DIR::")}
-TYPED = re.compile(rb"[A-Za-z]{2,}:")
-
-# The most bytes of a file, unless another limit is given.
-USUAL_LIMIT = 1 << 24
+TYPES = {"kt": (b"FILE:", b"WRFILE:"), "cc": (b"FILE:", b"DIR::")}  # types taken off names of keytabs and of caches
+TYPED = re.compile(rb"[A-Za-z]{2,}:")  # how a name of any type begins
+USUAL_LIMIT = 1 << 24  # the most bytes of a file, unless another limit is given
 
 # Causes in the words of the program.
 PHRASES = {

@@ -11,9 +11,7 @@ from krbfile.origin import beside
 DONE, END, BAD_VERSION, NOT_FOUND, KVNO_NOT_FOUND = 0, 2, 12, 39, 40
 
 Name = Union[bytes, str]
-
-# An encryption type, by its number or its name.
-Enctype = Union[int, str]
+Enctype = Union[int, str]  # an encryption type, by its number or its name
 
 LIBRARY = "libkrbfile.so.1"
 

@@ -12,9 +12,7 @@ BREAKS = ("crates/krb_editors/src/ccedit.rt", "crates/krb_cache_text")
 
 SET_3 = "config pa_type krbtgt/R@R 3"
 THREE = config(b"pa_type", b"3", b"krbtgt/R@R")
-
-# A ticket with each of the four times.
-TIMED = replace(TICKET, starttime=2, renew_till=4)
+TIMED = replace(TICKET, starttime=2, renew_till=4)  # a ticket with each of the four times
 
 # Lines, and the fault of each.
 FAULTS = LINE_FAULTS | by_line({

@@ -21,12 +21,10 @@ def listed(default: bytes, *lines: bytes, name: bytes = b"c") -> bytes:
     return b"".join(line + b"\n" for line in (*first, *lines))
 
 
-# The line that each column adds, and a name of the greatest count, which has its realm alone.
+# The line that each column adds.
 ADDED = {"f": b"    Flags: FRIA", "e": b"    Etype: aes128-cts-hmac-sha1-96", "C": b"config: pa_type(krbtgt/R@R) = 2"}
-MANY = Name((), count=2**32 - 1)
-
-# How an overview begins.
-HEADING = b"Principal name                 Cache name\n--------------                 ----------\n"
+MANY = Name((), count=2**32 - 1)  # a name of the greatest count, which has its realm alone
+HEADING = b"Principal name                 Cache name\n--------------                 ----------\n"  # of an overview
 
 
 def line_of(name: str, is_over: bool = False, default: bytes = b"u@R") -> bytes:
@@ -44,8 +42,7 @@ def case(name: str, image: bytes, *lines: bytes, columns: str = "") -> Case:
 LETTERS = {**{bit: letter for letter, bit in FLAGS.items()}, 0: b"", 2**32 - 1: b"".join(FLAGS),
            ~sum(FLAGS.values()) % 2**32: b""}
 
-# A starttime or a renewal time of 0 means none.
-TIMED = {second: text for second, text in KNOWN_TIMES.items() if second}
+TIMED = {second: text for second, text in KNOWN_TIMES.items() if second}  # a starttime or renewal time of 0 means none
 BYTES = bytes(range(256))
 ESCAPED = (b"".join(b"\\x%02x" % byte for byte in range(0x20)) + bytes(range(0x20, 0x5C)) + b"\\\\"
            + bytes(range(0x5D, 0x7F)) + b"".join(b"\\x%02x" % byte for byte in range(0x7F, 0x100)))

@@ -11,11 +11,9 @@ from runs.harness import Case, message, over
 # The smallest ticket: empty names, and no byte that is not a length, a time or a flag.
 LEAST = Credential(Name((), b"", 0), Name((), b"", 0), 0, None, b"", 0, 0, 0, flags=0, ticket=b"")
 SIZE = len(LEAST.spelled())
-
-# How much room a cache has, the places of the most tickets, and the longest value under `k`.
-ROOM = LIMIT - len(cache())
-PLACES = range(22, 22 + ROOM // SIZE * SIZE, SIZE)
-VALUE = b"v" * (ROOM - len(config(b"k", b"").spelled()))
+ROOM = LIMIT - len(cache())  # how much room a cache has
+PLACES = range(22, 22 + ROOM // SIZE * SIZE, SIZE)  # the places of the most tickets
+VALUE = b"v" * (ROOM - len(config(b"k", b"").spelled()))  # the longest value under `k`
 
 
 def least() -> bytes:

@@ -12,9 +12,8 @@ from runs.harness import Case, Outcome, message, over
 BREAKS = ("crates/krb_editors/src/ccremove.rt", "crates/krb_editors/src/selecting.rt",
           "crates/krb_audit/src/tickets.rt")
 
-# A time that does not come during a test, and tickets that end then.
-FUTURE = 2**32 - 1
-LATER, LATER_HOST = replace(TICKET, endtime=FUTURE), of_host(endtime=FUTURE)
+FUTURE = 2**32 - 1  # a time that does not come during a test
+LATER, LATER_HOST = replace(TICKET, endtime=FUTURE), of_host(endtime=FUTURE)  # tickets that end then
 
 # Two that have expired, at 40 and 392, a value at 148, valid ones at 284 and 606, and a removed one at 498. In a header
 # that is rewritten there is the offset only.
@@ -34,11 +33,10 @@ TOLD = ["removed 22 @R", "removed 115 /krbtgt@R", "removed 222 KRBTGT/R@R", "rem
         r"removed 434 krbtgt\/R@R"]
 GRANTING = tickets((b"krbtgt",), (b"krbtgt", b"S"), (b"krbtgt", b"a", b"b"))
 
-# A user's credentials as gssproxy keeps them, which only their name asks for, as another of its realm, and a ticket
-# without an end.
+# A user's credentials as gssproxy keeps them, which only their name asks for.
 KEPT = replace(TICKET, server=Name((b"Encrypted", b"Credentials", b"v1"), b"X-GSSPROXY:"), enctype=0, key=b"",
                authtime=0, endtime=0, flags=0)
-KEPT_TOO = replace(TICKET, server=Name((), b"X-GSSPROXY:"))
+KEPT_TOO = replace(TICKET, server=Name((), b"X-GSSPROXY:"))  # another of its realm, likewise
 BY_NAME = "-p Encrypted/Credentials/v1@X-GSSPROXY:"
 ENDLESS = replace(TICKET, endtime=0)
 

@@ -11,9 +11,8 @@ from system.pipe_files import fed
 
 BREAKS = ("crates/krb_readers/src/klist", "crates/krb_audit/src/tickets.rt")
 
-# A time that does not come during a test; the usual ticket ended before. And how runs end.
-FUTURE = 2**32 - 1
-VALID, NONE, UNREAD = Outcome(0), Outcome(1), Outcome(3)
+FUTURE = 2**32 - 1  # a time that does not come during a test; the usual ticket ended before
+VALID, NONE, UNREAD = Outcome(0), Outcome(1), Outcome(3)  # how runs end
 
 # Ticket-granting tickets of the default principal's realm, R, one of them over, and a ticket for host/a@R.
 OVER, TGT, HOST = TICKET, replace(TICKET, endtime=FUTURE), of_host(endtime=FUTURE)

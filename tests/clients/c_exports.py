@@ -19,13 +19,11 @@ IN_C = {
     **{f"&mut Krbf{name}": [f"krbf_{name.lower()} *"] for name in ("Bytes", "Entry", "Ticket", "Keytab", "Ccache")},
 }
 
-# The sources of refusals, with what a status adds to their numbers, and the statuses that have other names there.
+# The sources of refusals, with what a status adds to their numbers.
 REFUSALS = {"krb_keytab/src/open.rt": 10, "krb_ccache/src/open.rt": 10, "krb_wire/src/name_fault.rt": 20,
             "krb_walk/src/refusal.rt": 30}
-STATUSES = {"DONE": 0, "NO_MEMORY": 1, "END": 2, "BAD_DEFAULT_PRINCIPAL": 15}
-
-# A call's return type, and the kinds of its parameters.
-Signature = tuple[str, tuple[str, ...]]
+STATUSES = {"DONE": 0, "NO_MEMORY": 1, "END": 2, "BAD_DEFAULT_PRINCIPAL": 15}  # statuses that have other names there
+Signature = tuple[str, tuple[str, ...]]  # a call's return type, and the kinds of its parameters
 
 
 def parts(text: str) -> list[str]:

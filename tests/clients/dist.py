@@ -17,9 +17,8 @@ from runs.namespaces import UNSHARE, no_mounts
 
 BREAKS = ("Makefile", "c/krbfile.pc.in", "packaging", "python/pyproject.toml.in", "tests/selftest")
 
-# What is built and packed, and what is linked here.
-BUILT = ("bin/krbfile-static", "lib/libkrbfile.a", "lib/libkrbfile.so.1")
-LINKED = (BUILT[0], BUILT[2])
+BUILT = ("bin/krbfile-static", "lib/libkrbfile.a", "lib/libkrbfile.so.1")  # what is built and packed
+LINKED = (BUILT[0], BUILT[2])  # what is linked here
 
 # What is installed, but for the pages of calls, the examples and Python's module: into folders that are all given.
 FOLDERS = {name: f"/{name}" for name in ("BINDIR", "LIBDIR", "INCLUDEDIR", "MANDIR", "DATADIR", "DOCDIR", "PYTHONDIR")}
@@ -28,9 +27,10 @@ INSTALLED = """BINDIR/krbfile INCLUDEDIR/krbfile.h LIBDIR/libkrbfile.a LIBDIR/li
     DATADIR/fish/vendor_completions.d/krbfile.fish DATADIR/zsh/site-functions/_krbfile MANDIR/man1/krbfile.1
     MANDIR/man3/krbfile.3 MANDIR/man3/krbf_kt_open.3 MANDIR/man5/krbfile.5 PYTHONDIR/krbfile/py.typed"""
 
-# The time that a packager gives. A listing by the static program, and a missing file, in a root of that and a keytab.
-EPOCH = 1_700_000_000
+EPOCH = 1_700_000_000  # the time that a packager gives
 STATIC = os.path.join(TOP, BUILT[0])
+
+# A listing by the static program, and a missing file, in a root of that and a keytab.
 ROWS = {("klist", "-kt", "/k"): Outcome(0, sample("t").replace(b"FILE:k\n", b"FILE:/k\n")),
         ("klist", "-k", "/x"): message(1, "/x: no such file")}
 

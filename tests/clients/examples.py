@@ -16,12 +16,12 @@ from runs.harness import TOP, Outcome, Report, files_in, folder_of, message, run
 
 BREAKS = ("examples",)
 
-# The files of jobs, each with a line that it prints, and another that all do.
+# The files of jobs, each with a line that it prints.
 FOUND = b"./mixed.keytab: weak 53 kvno 3 etype 23 b@R\n./mixed.keytab: entries 2 free 0 holes 0\n"
 JOBS = {"keytabs.cron": FOUND, "keytabs.service": FOUND, "keytabs.yml":
         b'{"file":"./mixed.keytab","mode":"600","entries":2,"free":0,"holes":0,"findings":[{"finding":"weak",'
         b'"place":53,"kvno":3,"etype":23,"principal":"b@R"}],"fault":null,"status":1}'}
-REMOVED = b"removed 2 kvno 3 etype 17 host/a@R\n"
+REMOVED = b"removed 2 kvno 3 etype 17 host/a@R\n"  # another line, which all jobs print
 
 # The scripts, also over a cache with an offset and two tickets for one service, and the files that they leave.
 SCRIPTS = {

@@ -13,8 +13,7 @@ from words.phrases import LIBRARY_CODES, SHORT, code
 
 BREAKS = ("python", "crates/krb_c")
 
-# A script's name, its text, its input, and the lines that it prints.
-Script = tuple[str, str, bytes, list[str]]
+Script = tuple[str, str, bytes, list[str]]  # a script's name, its text, its input, and the lines that it prints
 
 # What each script begins with: what a call gives or raises, also once that is pickled; and threads.
 FRONT = """

@@ -105,9 +105,8 @@ STRANGER = CHILD.replace("os.fork()", "(worker := PyDLL(None).fork())") + "\n   
 WORKER = "worker = os.fork() or live()"
 UNKNOWN = "worker = PyDLL(None).fork() or live()"
 
-# How many seconds a run has that is to wait, and one that is to end.
-MOMENT, LONG = 0.5, 30.0
-
+MOMENT = 0.5  # how many seconds a run has that is to wait
+LONG = 30.0  # and one that is to end
 CLOSED = "ValueError('it is closed')"
 SCRIPTS = (
     ("saves", SAVES, " ".join(each.hex() for each in (TWO, cache(TICKET, PA_TYPE), old(HOST, order=BIG))).encode(), [

@@ -14,9 +14,10 @@ from runs.harness import Case, Report
 from runs.random_runs import keep
 from theorems.antt import TIME, Module, seconds, time_theorems
 
-# The crate of a batch, how many rows a module has, the most bytes that a row is about, and how many days there are: the
-# date of a day is found by counting, which takes as long as many rows.
-NAME, ROWS, MOST, DAYS = "computed", 100, 4_000, 16
+NAME = "computed"  # the crate of a batch
+ROWS = 100  # how many rows a module has
+MOST = 4_000  # the most bytes that a row is about
+DAYS = 16  # how many days there are: the date of a day is found by counting, which takes as long as many rows
 
 # A function whose proof reads the modules.
 SOURCE = """//! Runs as theorems.
@@ -31,11 +32,8 @@ pub fn computes() -> u8
 }}
 """
 
-# A refusal of a row, with its first line.
-REFUSED = re.compile(r"\./proofs/\w+\.antt:\S+ error: `row_(\d+)`: (.*)")
-
-# The statuses of bad command lines, and of runs in which a call failed.
-NOT_COMPUTED = (2, 3, 4)
+REFUSED = re.compile(r"\./proofs/\w+\.antt:\S+ error: `row_(\d+)`: (.*)")  # a refusal of a row, with its first line
+NOT_COMPUTED = (2, 3, 4)  # the statuses of bad command lines, and of runs in which a call failed
 
 
 def days_of(case: Case) -> set[int]:

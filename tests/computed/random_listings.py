@@ -35,9 +35,8 @@ SERVERS = [*[Name((b"krbtgt", b"R"))] * 3, Name((b"host", b"a")), Name((b"host",
 SEVERAL = [("k",), ("k",), ("k", "j"), ("no", "k", "k"), ("KCM:k", "j", "FILE:k")]
 CACHE_NAMES = [("c",), ("c",), ("c", "DIR::c"), ("DIR:c", "c", "no", "c")]
 
-# The time of the clock, and times before it, at it and after it.
-NOW = 1_700_000_000
-TIMES = [*KNOWN_TIMES, NOW - 1, NOW + 1]
+NOW = 1_700_000_000  # the time of the clock
+TIMES = [*KNOWN_TIMES, NOW - 1, NOW + 1]  # before it, at it and after it
 WHILES = (None, 0, 1, 1_000, 2**32 - 1)
 
 

@@ -27,9 +27,8 @@ GIVEN = {"klist": ("explains",), "ktfind": ("explains",), "ktcopy": ("explains",
          "ktutil": ("explains", "clock"), "klist_silent": ("clock",), "klist_overview": ("explains", "clock")}
 READING = ("ktedit", "ccedit", "ktutil")
 OTHERS = {"list": "klist_overview", "silent": "klist_silent"}
-
-# The command and the options that ask for the time, and the lines of ktutil that do.
-TIMED, ADDING = {"show", "list", "silent", "age", "older", "expired"}, (b"add_entry", b"addent")
+TIMED = {"show", "list", "silent", "age", "older", "expired"}  # the command and the options that ask for the time
+ADDING = (b"add_entry", b"addent")  # the lines of ktutil that do
 
 
 class NotComputed(Exception):

@@ -12,8 +12,7 @@ from runs.harness import Outcome, Report
 from runs.random_runs import ONE_IN
 from runs.undisturbed import Undisturbed, explained
 
-# A long run takes its count divided by this.
-SHARE = 50
+SHARE = 50  # a long run takes its count divided by this
 
 
 @dataclass(frozen=True)

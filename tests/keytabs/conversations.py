@@ -17,9 +17,7 @@ from runs.harness import SECONDS, Outcome, Report, differences, folder_of, piped
 BREAKS = ("crates/krb_ktutil", "crates/krb_files/src/reader.rt", "crates/krb_files/src/watched.rt")
 
 LISTED = text(TWO_LISTED)
-
-# How long a run has to reach the point where it waits.
-MOMENT = 0.05
+MOMENT = 0.05  # how long a run has to reach the point where it waits
 
 
 def stop(pid: int) -> None:

@@ -14,10 +14,8 @@ from runs.harness import Case, Outcome, message, printed, words_of
 BREAKS = ("crates/krb_editors/src/ktcopy.rt", "crates/krb_editors/src/ktdiff.rt", "crates/krb_copy")
 
 X, Y = "kvno 3 etype 17 host/a@R", "kvno 3 etype 17 b@R"
-
-# Entries that are as that of b@R, with other keys, and a name whose count of components version 1 cannot hold.
-OTHER, THIRD = replace(B, key=bytes(16)), replace(B, key=b"\xff" * 16)
-LONG = Entry((b"",) * 65_535)
+OTHER, THIRD = replace(B, key=bytes(16)), replace(B, key=b"\xff" * 16)  # as that of b@R, with other keys
+LONG = Entry((b"",) * 65_535)  # a name whose count of components version 1 cannot hold
 
 
 def copy(name: str, options: str, source: bytes | None, target: bytes | None, wanted: Outcome | list[str],
@@ -32,9 +30,8 @@ def copy(name: str, options: str, source: bytes | None, target: bytes | None, wa
                 files if after is None else {**files, "t": after})
 
 
-# What is left of the greatest keytab beside a record of b@R. Files that are no sound keytabs, each with its message.
-ROOM = LIMIT - 2 - 45 - 4
-UNSOUND = {b"xy": "not a keytab (2)", TWO[:-1]: "refused 1"}
+ROOM = LIMIT - 2 - 45 - 4  # what is left of the greatest keytab beside a record of b@R
+UNSOUND = {b"xy": "not a keytab (2)", TWO[:-1]: "refused 1"}  # files that are no sound keytabs, each with its message
 
 
 def full() -> bytes:
@@ -83,8 +80,7 @@ CASES = [
                  message(1, "t: refused 3")),
 ]
 
-# An entry of another name, with another name type.
-C = Entry((b"c",), key=B.key, name_type=5)
+C = Entry((b"c",), key=B.key, name_type=5)  # an entry of another name, with another name type
 
 
 def diff(options: str, ours: bytes | None, others: bytes | None, *lines: str, err: str = "") -> Case:

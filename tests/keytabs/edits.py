@@ -43,9 +43,8 @@ FAULTS = LINE_FAULTS | by_line({
     "add x y z 0 b": 3, "add 3 y z 0 b": 4, "add 3 17 z 0 b": 3, "add 3 17 0 0 b": 5,
 }
 
-# A bad entry between two good ones, and one of the most components, all empty.
-DAMAGED = keytab(HOST, record(bytes(10)), B)
-MOST = keytab(Entry((b"",) * 65_535))
+DAMAGED = keytab(HOST, record(bytes(10)), B)  # a bad entry between two good ones
+MOST = keytab(Entry((b"",) * 65_535))  # an entry of the most components, all empty
 
 
 def refused(*replies: str) -> Outcome:

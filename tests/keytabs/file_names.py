@@ -9,8 +9,8 @@ from runs.harness import Case, Outcome, Report, folder_of, message, over, run
 
 BREAKS = ("crates/krb_disk/src/read.rt", "crates/krb_driver/src/loading.rt", "crates/krb_driver/src/opening.rt")
 
-# The greatest size of a file that is read, and a user who may not read root's files.
-LIMIT, NOBODY = 16_777_216, 65_534
+LIMIT = 16_777_216  # the greatest size of a file that is read
+NOBODY = 65_534  # a user who may not read root's files
 
 # Each is taken and printed as it is given.
 NAMES = ["./k", "two words", "schlüssel-ключ-鍵", "-k", "-", "a:b", "new\nline", "x" * 255]

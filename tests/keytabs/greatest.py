@@ -8,14 +8,11 @@ from makers.images import HOST, Entry, hole, keytab, number, record
 from runs.harness import Case, Outcome, over, run_case, words_of
 from runs.undisturbed import PROGRAM, frame
 
-# The smallest entry with a component: 23 bytes with its 32-bit version, in a record of 27.
-LEAST = Entry((b"",), b"", 1, 0, 0, 0, b"", 0)
+LEAST = Entry((b"",), b"", 1, 0, 0, 0, b"", 0)  # the smallest with a component: 23 bytes with its 32-bit version
 LEAST_RECORD = record(LEAST.spelled())
 LEAST_ADD = b"add 0 0 0 - @\n"
-SIZE = len(LEAST_RECORD)
-
-# How many of them fit in a file, and their places.
-COUNT = (LIMIT - 2) // SIZE
+SIZE = len(LEAST_RECORD)  # 27
+COUNT = (LIMIT - 2) // SIZE  # how many of them fit in a file
 PLACES = range(2, 2 + SIZE * COUNT, SIZE)
 
 

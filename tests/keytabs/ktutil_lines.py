@@ -13,10 +13,8 @@ ADDENT = "addent -key -p host/a@R -k 3 -e aes128-cts-hmac-sha1-96"
 HEADING = ["slot KVNO Principal", "---- ---- ---------"]
 TIMES = ["slot KVNO Timestamp            Principal", "---- ---- -------------------- ---------"]
 NO_SLOTS = text(HEADING)
-
-# The listing of TWO, and what more columns have.
 TWO_LISTED = [*HEADING, "   1    3 host/a@R", "   2    3 b@R"]
-HOST_KEY, B_KEY = (f" (0x{entry.key.hex()})" for entry in (HOST, B))
+HOST_KEY, B_KEY = (f" (0x{entry.key.hex()})" for entry in (HOST, B))  # what more columns have
 ETYPE = " (aes128-cts-hmac-sha1-96)"
 
 

@@ -14,9 +14,7 @@ DAMAGED = message(1, "k: refused 1")
 AES256 = Entry(version8=5, version32=5, enctype=18, key=bytes(32))
 FIVE = Entry(version8=5, version32=5)
 B3 = Entry((b"b",))
-
-# host/a@R at 2, 53 and 120, versions 3, 5 and 5 of enctypes 17, 18 and 17; b@R at 171.
-THOSE = HOST, AES256, FIVE, B3
+THOSE = HOST, AES256, FIVE, B3  # host/a@R at 2, 53 and 120, versions 3, 5 and 5 of enctypes 17, 18 and 17; b@R at 171
 FOUR = keytab(*THOSE)
 X = "removed 2 kvno 3 etype 17 host/a@R"
 

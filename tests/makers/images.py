@@ -15,10 +15,8 @@ from dataclasses import dataclass, replace
 
 BIG = "big"
 LITTLE = "little"
-
-# The length that ends the file, and the bytes that are special in the text of a name.
-END = bytes(4)
-SPECIAL = {47: b"\\/", 64: b"\\@", 92: b"\\\\", 10: b"\\n", 9: b"\\t", 8: b"\\b", 0: b"\\0"}
+END = bytes(4)  # the length that ends the file
+SPECIAL = {47: b"\\/", 64: b"\\@", 92: b"\\\\", 10: b"\\n", 9: b"\\t", 8: b"\\b", 0: b"\\0"}  # in the text of a name
 
 
 def name_text(name: tuple[bytes, ...]) -> bytes:
@@ -58,9 +56,8 @@ class Entry:
         return b"".join(parts)
 
 
-# host/a@R, 47 bytes in version 2, and b@R, 41 bytes. Their keys are 00 to 0f and 10 to 1f.
-HOST = Entry()
-B = Entry(components=(b"b",), key=bytes(range(16, 32)))
+HOST = Entry()  # host/a@R, 47 bytes in version 2, with the key 00 to 0f
+B = Entry(components=(b"b",), key=bytes(range(16, 32)))  # b@R, 41 bytes, with the key 10 to 1f
 
 
 def number(value: int, width: int, order: str = BIG) -> bytes:
@@ -98,13 +95,11 @@ def old(*parts: Entry | int | bytes, order: str = LITTLE) -> bytes:
     return keytab(*parts, version=1, order=order)
 
 
-# The keytab of most cases: 98 bytes, with an entry at 2 and one at 53.
-TWO = keytab(HOST, B)
+TWO = keytab(HOST, B)  # the keytab of most cases: 98 bytes, with an entry at 2 and one at 53
 
-# The realm and the first component of the server of a configuration entry, and the times that mark one as removed.
-CONFIG_REALM = b"X-CACHECONF:"
-CONFIG_FIRST = b"krb5_ccache_conf_data"
-REMOVED = {"authtime": 2**32 - 1, "endtime": 0}
+CONFIG_REALM = b"X-CACHECONF:"  # the realm of the server of a configuration entry
+CONFIG_FIRST = b"krb5_ccache_conf_data"  # the first component of that server
+REMOVED = {"authtime": 2**32 - 1, "endtime": 0}  # the two times that mark a credential as removed
 
 # The letters of a ticket's flags, in the order in which they are printed.
 FLAGS = {
@@ -113,8 +108,7 @@ FLAGS = {
     b"O": 0x00040000, b"a": 0x00008000,
 }
 
-# An address, or an element of the authorization data: its type and its bytes.
-Typed = tuple[int, bytes]
+Typed = tuple[int, bytes]  # an address, or an element of the authorization data: its type and its bytes
 
 
 @dataclass(frozen=True)
@@ -206,17 +200,12 @@ def cache(*cells: Credential | bytes, default: Name = U, fields: bytes = b"", ve
     return bytes([5, version]) + header + default.spelled() + b"".join(spelled)
 
 
-# The fields of its header: one of an unknown tag, and the offset, which is all that a rewrite keeps.
-OFFSET = offset(5, -10)
-FIELDS = header_field(9, b"\xab\xcd") + OFFSET
-
-# The cache of most cases, of 392 bytes: a ticket at 40, a configuration entry at 148, and at 284 a removed ticket.
+OFFSET = offset(5, -10)  # the field of a header that a rewrite keeps
+FIELDS = header_field(9, b"\xab\xcd") + OFFSET  # the fields of a header: one of an unknown tag, and the offset
 TICKET = Credential()
-PA_TYPE = config(b"pa_type", b"2", b"krbtgt/R@R")
-USUAL = cache(TICKET, PA_TYPE, TICKET.removed(), fields=FIELDS)
-
-# A cache of version 3 whose ticket starts at 20: its two enctypes differ.
-VERSION_3 = cache(replace(TICKET, second_enctype=23), version=3)
+PA_TYPE = config(b"pa_type", b"2", b"krbtgt/R@R")  # a configuration entry
+USUAL = cache(TICKET, PA_TYPE, TICKET.removed(), fields=FIELDS)  # of most cases, 392 bytes; they are at 40, 148 and 284
+VERSION_3 = cache(replace(TICKET, second_enctype=23), version=3)  # its ticket, at 20, has two enctypes that differ
 
 
 def config_ticket(*after: bytes, first: bytes = CONFIG_FIRST, realm: bytes = CONFIG_REALM,

@@ -10,14 +10,11 @@ from makers.images import (CONFIG_FIRST, CONFIG_REALM, FLAGS, Credential, Name, 
 from makers.random_keytabs import damaged, mutated, random_bytes
 from peers import corpus
 
-# Caches of other programs. Few keys and principals, so that many values replace others.
-SAMPLES = corpus.images("ccache")
-KEYS = [b"k", b"l", b"pa_type", b"\\x00", b"\x00", b"-"]
-PRINCIPALS = [b"-", b"-", b"krbtgt/R@R", b"a@R", b"\\a@R", b"\xff@"]
-
-# What tickets in DER have.
-ETYPES = (17, 18, 19, 20, 23, 25, 26, 16, 0, -1, 65_535, 65_536, -2**31, 2**31 - 1)
-KVNOS = (None, None, 0, 1, 2, 127, 128, 255, 2**31 - 1, 2**31, 2**32 - 1, -1, -2**31)
+SAMPLES = corpus.images("ccache")  # caches of other programs
+KEYS = [b"k", b"l", b"pa_type", b"\\x00", b"\x00", b"-"]  # few, so that many values replace others
+PRINCIPALS = [b"-", b"-", b"krbtgt/R@R", b"a@R", b"\\a@R", b"\xff@"]  # few, likewise
+ETYPES = (17, 18, 19, 20, 23, 25, 26, 16, 0, -1, 65_535, 65_536, -2**31, 2**31 - 1)  # of tickets in DER
+KVNOS = (None, None, 0, 1, 2, 127, 128, 255, 2**31 - 1, 2**31, 2**32 - 1, -1, -2**31)  # of tickets in DER
 
 
 def random_number(random: Random, bits: int) -> int:

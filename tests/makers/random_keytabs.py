@@ -7,8 +7,8 @@ from random import Random
 from makers.images import BIG, END, LITTLE, Entry, hole, keytab, number, record
 from peers import corpus
 
-# Keytabs of other programs, and lengths that run past the end, end the file, or are cut off.
-SAMPLES = corpus.images("keytab")
+SAMPLES = corpus.images("keytab")  # keytabs of other programs
+# Lengths that run past the end, end the file, or are cut off.
 LENGTHS = [END, b"\0", b"\0\0\0\1", b"\x7f\xff\xff\xff", b"\x80\0\0\0", b"\xff\xff\xff\xff"]
 
 

@@ -8,9 +8,7 @@ from makers.images import (B, HOST, PA_TYPE, TICKET, TWO, Credential, Entry, Nam
 
 REALM = b"EXAMPLE.ORG"
 ALICE = Name((b"alice",), REALM)
-
-# A record with a length of 47, but only 20 bytes.
-CUT = (47).to_bytes(4, "big") + HOST.spelled()[:20]
+CUT = (47).to_bytes(4, "big") + HOST.spelled()[:20]  # a record with a length of 47, but only 20 bytes
 
 
 def key_of(service: bytes, kvno: int, enctype: int) -> Entry:

@@ -22,15 +22,12 @@ BREAKS = ("crates/krbfile/src/default_name.rt", "crates/krb_command_line/src/pla
 CCNAME, KTNAME = Kind.CACHE.variable, Kind.KEYTAB.variable
 CACHE = IMAGES[Kind.CACHE]
 KEYTAB = FileName("/etc/krb5.keytab", source=DEFAULT)
+USER = 4_000_123_456  # a user whom no system has
+OWN = "/tmp/krb5cc_{}"  # the name of a user's cache
 
-# A user whom no system has, and the name of that user's cache.
-USER = 4_000_123_456
-OWN = "/tmp/krb5cc_{}"
-
-# What the system reports of a process: the first number is that of the real user. And texts that have none: no bytes,
-# no such line, or no number in it.
+# What the system reports of a process: the first number is that of the real user.
 OF_USER = "Name:\tUid:\nUmask:\t0022\nTgid:\t5\nUid:\t{}\t0\t7\t8\nGid:\t9\t9\t9\t9\n"
-UNKNOWN = (b"", b"Uid:\n", b"Uid:\tx\t0\t0\t0\n", b"xUid:\t5\t5\t5\t5\n")
+UNKNOWN = (b"", b"Uid:\n", b"Uid:\tx\t0\t0\t0\n", b"xUid:\t5\t5\t5\t5\n")  # no bytes, no such line, or no number in it
 
 # Environments in which the default is taken: none, an empty value, and a value for the other kind.
 UNNAMED = {Kind.KEYTAB: ({}, {KTNAME: ""}, {CCNAME: "c"}), Kind.CACHE: ({}, {CCNAME: ""}, {KTNAME: "c"})}

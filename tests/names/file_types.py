@@ -18,9 +18,9 @@ from words.phrases import BEGINS_AS_NO_KEYTAB, LEAVE_OUT, NAMED, NOT_READ, code,
 BREAKS = ("crates/krb_driver/src/file_name.rt", "crates/krb_driver/src/either.rt", "crates/krb_driver/src/verdict.rt",
           "crates/krb_commands")
 
-# Words that every command is tried with, and its variable; the listings are tried with all. And what no run looks at,
-# but for the variable of its kind where the file is left out.
+# Words that every command is tried with, and its variable; the listings are tried with all.
 SOME = ("FILE:FILE:k", "WRFILE:k", "./FILE:k", "C:k", 'ключ "\\:k', "KCM:k", "DIR::k", "DIR:k", "FILE:", "")
+# What no run looks at, but for the variable of its kind where the file is left out.
 IGNORED = {"KRB5_CLIENT_KTNAME": b"\xff", **{kind.variable: b"\xff" for kind in Kind}}
 
 

@@ -68,14 +68,13 @@ def named(word: str, *kinds: Kind) -> FileName:
     return FileName(word, COLLECTION if is_collection else NOT_READ.replace("TYPE", its_type))
 
 
-# A file that is neither a keytab nor a cache.
-NEITHER = b"x\0"
+NEITHER = b"x\0"  # a file that is neither a keytab nor a cache
 NEITHERS = {(Kind.KEYTAB,): ("keytab", *BEGINS_AS_NO_KEYTAB), (Kind.CACHE,): ("cache", *BEGINS_AS_NO_CACHE),
             (*Kind,): ("cache", *SHOWN_AS_NEITHER)}
 
-# A file of each kind; its ticket is always valid. The name whose place others take, and that of the file beside it.
-IMAGES = {Kind.KEYTAB: TWO, Kind.CACHE: VALID}
-NAME, BESIDE = "<name>", "from"
+IMAGES = {Kind.KEYTAB: TWO, Kind.CACHE: VALID}  # a file of each kind; its ticket is always valid
+NAME = "<name>"  # the name whose place others take
+BESIDE = "from"  # that of the file beside it
 
 
 @dataclass(frozen=True, eq=False)

@@ -29,10 +29,11 @@ B_K, B_J = "k: removed 53 kvno 3 etype 17 b@R", "j: removed 2 kvno 3 etype 17 b@
 X_O = "o: removed 2 kvno 3 etype 17 host/a@R"
 TGT_C, HOST_C, HOST_H = "c: removed 34 krbtgt/R@R", "c: removed 278 host/a@R", "h: removed 22 host/a@R"
 
-# What is said where nothing is asked for, of files that cannot be asked, and of a principal in the place of a file.
+# What is said where nothing is asked for, and of files that cannot be asked.
 NO_ENTRY, NO_TICKET = (("refused 9", code(9, command)) for command in ("ktremove", "ccremove"))
 DAMAGED, OLD_CACHE = ("d: refused 1", code(1, "ktremove")), ("v: refused 8", code(8, "ccremove"))
 UNSAVED = ("k: cannot write", CAUSES["in the way"].replace("NAME", "k"))
+# A principal in the place of a file, and a name of another type.
 NAMED, OTHER_NAMED = ("host/a@R: no such file", TO_NAME), ("KCM:u@R: no such file", OTHER[1])
 
 

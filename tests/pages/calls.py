@@ -9,13 +9,13 @@ from runs.harness import TOP, Report
 
 BREAKS = ("crates/*/CALLING.md", "crates/library_tests")
 
-# Crates whose calls are on the page of another; and an item that may contain functions, or a function up to its body.
-ON_PAGE_OF = {"krb_files": ["krb_disk"]}
+ON_PAGE_OF = {"krb_files": ["krb_disk"]}  # crates whose calls are on the page of another
+
+# An item that may contain functions, or a function up to its body.
 ITEM = re.compile(r"^(?:pub )?(?:unsafe )?(?:impl(?:<(?:[^<>]|<[^<>]*>)*>)?|(trait)) (\w+)(.*)|"
                   r"^( *)(pub )?(?:const )?fn (\w+)((?s:.*?)(?:;|\s *\{\}?))$", re.MULTILINE)
 
-# The contract of each public call by its name.
-Calls = dict[str, str]
+Calls = dict[str, str]  # the contract of each public call by its name
 
 
 def calls_in(text: str, names: set[str], is_open: bool) -> Calls:

@@ -13,9 +13,7 @@ BREAKS = ("*.md", "*/*.md", "docs/*.md", "crates/*/CALLING.md", "crates.txt", "c
           "crates/rotate_keys")
 
 MAP = os.path.join("docs", "DESIGN.md")
-
-# The proved code of the pages that lead to no source.
-PROVED = "crates/library_tests/src/tests/readme.rt"
+PROVED = "crates/library_tests/src/tests/readme.rt"  # the proved code of the pages that lead to no source
 
 
 def read(path: str) -> str:

@@ -15,9 +15,7 @@ from runs.undisturbed import preload_library
 
 BREAKS = ("README.md", "docs/krbfile.1", "tests/samples")
 
-# The time of the clock where ages are shown: 100 days after the times of most samples.
-NOW = 1_708_640_000
-
+NOW = 1_708_640_000  # the time of the clock where ages are shown: 100 days after the times of most samples
 LIBRARY = os.path.join(TOP, "lib", "libkrbfile.so.1")
 
 

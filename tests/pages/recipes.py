@@ -9,9 +9,8 @@ from runs.harness import TOP, Report
 PAGE = "CONTRIBUTING.md"
 BREAKS = (PAGE,)
 
-# A recipe, and a file or some of them, from the top of the repository.
 RECIPE = re.compile(r"^### ([^,\n]*).*\n((?s:.*?))(?=^##)", re.MULTILINE)
-FILES = re.compile(r"`((?:crates|docs|examples|python|tests)/[^` ]+|[A-Z]+\.md)`")
+FILES = re.compile(r"`((?:crates|docs|examples|python|tests)/[^` ]+|[A-Z]+\.md)`")  # a file or some, from the top
 
 # Where examples are looked for, and how they are named.
 SOURCES = ("*.md", "docs/*", "examples/*", "python/*/*.py", "crates/*/CALLING.md", "crates/*/src/**/*.rt",

@@ -14,21 +14,16 @@ from runs.harness import SECONDS, Report, piped, run
 from theorems import mit_listings
 from theorems.mit_listings import ENTRY, credential_lines, entry_line
 
-# The century of a time, which MIT's programs leave out, and the dashes below the heading of a keytab's listing.
-CENTURY = re.compile(r"\b\d\d(?=\d\d-\d\d-\d\dT)")
-DASHES = re.compile(r"^----[- ]*\n", re.MULTILINE)
+CENTURY = re.compile(r"\b\d\d(?=\d\d-\d\d-\d\dT)")  # the century of a time, which MIT's programs leave out
+DASHES = re.compile(r"^----[- ]*\n", re.MULTILINE)  # below the heading of a keytab's listing
+CREDENTIAL = re.compile(r"^(?! )(?=.)", re.MULTILINE)  # where a credential begins
+TICKET_TYPE = re.compile(r"Etype \(skey, tkt\): [^,]*, ([^\t]*?) *(?:\t|$)")  # its own enctype, below its first line
+PROMPT = b"ktutil:  "  # the prompt of MIT's ktutil, which it prints into a pipe too
+SEEDS = 60  # how many random cases there are of a kind
 
-# Where a credential begins, and a ticket's own enctype, below its first line.
-CREDENTIAL = re.compile(r"^(?! )(?=.)", re.MULTILINE)
-TICKET_TYPE = re.compile(r"Etype \(skey, tkt\): [^,]*, ([^\t]*?) *(?:\t|$)")
-
-# The prompt of MIT's ktutil, which it prints into a pipe too, and how many random cases there are of a kind.
-PROMPT = b"ktutil:  "
-SEEDS = 60
-
-# Where MIT's programs are: those of the KDC may be outside a plain user's path. And their environment, since they need
-# no configuration except in a realm.
+# Where MIT's programs are: those of the KDC may be outside a plain user's path.
 PATHS = os.pathsep.join([os.environ.get("PATH", ""), "/usr/sbin", "/usr/local/sbin"])
+# Their environment: they need no configuration except in a realm.
 SURROUNDINGS = {name: value for name, value in os.environ.items() if not name.startswith("KRB5")}
 SURROUNDINGS |= {"KRB5_CONFIG": os.devnull, "PATH": PATHS, "LC_ALL": "C", "TZ": "UTC"}
 

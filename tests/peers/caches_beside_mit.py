@@ -23,8 +23,7 @@ from runs.harness import Check, Outcome, Report, differences, every, files_in, f
 
 BREAKS = ("crates/krb_ccache", "crates/krb_cache_text")
 
-# MIT's programs.
-TOOLS = ("klist", "kinit", "kvno", "kdb5_util", "krb5kdc")
+TOOLS = ("klist", "kinit", "kvno", "kdb5_util", "krb5kdc")  # MIT's programs
 
 CLIENT_CONF = """[libdefaults]
  default_realm = CACHE.TEST
@@ -55,12 +54,9 @@ KDC_CONF = """[kdcdefaults]
 ETYPES = ("aes128-cts-hmac-sha1-96", "aes256-cts-hmac-sha1-96", "aes128-cts-hmac-sha256-128",
           "aes256-cts-hmac-sha384-192", "camellia128-cts-cmac", "camellia256-cts-cmac")
 
-# The principals beyond those of a new realm, as the text of a name has them.
 HOST, ODD_NAME = "host/a.cache.test", "a\\/b\\@c/d\\\\e"
-PRINCIPALS = ("user", "svc/h", HOST, ODD_NAME)
-
-# The key of the database is the key of each of them, since the stash file has it: a keytab serves kinit.
-KINIT = ("kinit", "-k", "-t", "k")
+PRINCIPALS = ("user", "svc/h", HOST, ODD_NAME)  # beyond those of a new realm, as the text of a name has them
+KINIT = ("kinit", "-k", "-t", "k")  # principals have the database's key, as the stash file has: a keytab serves kinit
 USER = (*KINIT, "user")
 
 # For each cache its version, and the commands that fill it.

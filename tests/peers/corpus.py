@@ -18,9 +18,8 @@ from runs.harness import TOP, Case, Outcome, Report
 
 BREAKS = ("tests/corpus", "tests/samples_of_corpus", "crates/corpus_samples")
 
-# The folder of the files and cases, and the rows of the tables in its README: a file, and who wrote it.
-FOLDER = os.path.join(TOP, "tests", "corpus")
-ROW = re.compile(r"^\| `(\S+)` \| (.*?) \| .*? \|$", re.M)
+FOLDER = os.path.join(TOP, "tests", "corpus")  # of the files and cases
+ROW = re.compile(r"^\| `(\S+)` \| (.*?) \| .*? \|$", re.M)  # of a table in its README: a file, and who wrote it
 
 
 def given(value: dict) -> bytes:

@@ -66,12 +66,10 @@ SAME = [
     (undisturbed("ktutil", text(BY_NAMES), clock=NOW), BY_NAMES),
 ]
 
-# A few names, and versions on both sides of where they wrap.
 NAMES = ((b"a",), (b"host", b"a"), (b"b",))
-VERSIONS = (1, 2, 126, 127, 128, 129, 239, 240, 241, 242, 254, 255, 256, 257)
-
-# Entries around another. Of the version 1 files, MIT's programs read those of the machine's own byte order.
-FIRST, LAST = Entry((b"first",)), Entry((b"last",))
+VERSIONS = (1, 2, 126, 127, 128, 129, 239, 240, 241, 242, 254, 255, 256, 257)  # on both sides of where they wrap
+FIRST, LAST = Entry((b"first",)), Entry((b"last",))  # entries around another
+# Of the version 1 files, MIT's programs read those of the machine's own byte order.
 KINDS = ((2, BIG, ()), (1, sys.byteorder, ("--v1-big",) if sys.byteorder == BIG else ()))
 USER, SERVICE = (b"user@" + REALM).decode(), (b"svc/h@" + REALM).decode()
 

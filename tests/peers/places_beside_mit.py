@@ -12,9 +12,8 @@ from system.saving import ADD_LONG
 
 BREAKS = ("crates/krb_disk/src/in_place", "crates/krb_disk/src/in_place.rt")
 
-# How long a run is watched that has to wait. The names in the file at first, of the entry that MIT's ktutil adds, and
-# of the one that a run adds.
-MOMENT, FIRST, MITS, OURS = 0.3, "host/a", "b", "a/long/name"
+MOMENT = 0.3  # how long a run is watched that has to wait
+FIRST, MITS, OURS = "host/a", "b", "a/long/name"  # the names at first, of MIT's entry, and of a run's
 
 # MIT's programs, halted while they have the lock: one that reads the file, and one that begins to add what is in J.
 READS = ("klist", undisturbed("-k k"), Halt("read", paths=("k",)))

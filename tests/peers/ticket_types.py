@@ -11,8 +11,7 @@ from runs.harness import Report, folder_of
 
 BREAKS = ("crates/krb_ccache/src/der.rt", "crates/krb_ccache/src/ticket.rt", "crates/krb_json/src/ticket.rt")
 
-# What JSON has of a ticket: its enctype, the name of that, and its kvno.
-Encryption = tuple[int | None, str | None, int | None]
+Encryption = tuple[int | None, str | None, int | None]  # JSON of a ticket: its enctype, the name of that, and its kvno
 NAME = "aes256-cts-hmac-sha1-96"
 USUAL: Encryption = (18, NAME, 2)
 NOTHING: Encryption = (None, None, None)

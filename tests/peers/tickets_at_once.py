@@ -15,9 +15,9 @@ from runs.storms import Run, rage
 
 BREAKS = ("crates/krb_disk/src/looks/locks.rt", "crates/krb_editors/src/ccremove.rt")
 
-# How many runs of each command there are, and within how many seconds they begin. Services whose tickets are removed,
-# and those whose tickets are added.
-EACH, WITHIN = 15, 0.5
+EACH = 15  # how many runs of each command there are
+WITHIN = 0.5  # within how many seconds they begin
+# Services whose tickets are removed, and those whose tickets are added.
 GOING, COMING = (tuple(f"svc/{letter}{number}" for number in range(EACH)) for letter in "rs")
 
 

@@ -18,9 +18,7 @@ BREAKS = ("crates/krb_ccache", "crates/krb_editors/src/ccremove.rt")
 TGT = "krbtgt/CACHE.TEST@CACHE.TEST"
 HOST_TEXT = f"{HOST}@CACHE.TEST"
 SVC_TEXT = "svc/h@CACHE.TEST"
-
-# A session key: its type, its length, and its bytes.
-SESSION_KEY = re.compile(rb"\0\x12\0\0\0\x20(.{32})", re.DOTALL)
+SESSION_KEY = re.compile(rb"\0\x12\0\0\0\x20(.{32})", re.DOTALL)  # its type, its length, and its bytes
 
 
 class Filled:

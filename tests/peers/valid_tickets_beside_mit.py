@@ -15,8 +15,9 @@ from runs.undisturbed import undisturbed
 
 BREAKS = ("crates/krb_readers/src/klist", "crates/krb_audit/src/tickets.rt")
 
-# The end of the usual ticket, and another. The servers of the random caches, two of ticket-granting tickets.
-END, LATER = TICKET.endtime, TICKET.endtime + 1_000
+END, LATER = TICKET.endtime, TICKET.endtime + 1_000  # the end of the usual ticket, and another
+
+# The servers of the random caches, two of ticket-granting tickets.
 SERVERS = (Name((b"krbtgt", b"R")), Name((b"krbtgt", b"S")), Name((b"krbtgt", b"R"), b"S"), Name((b"host", b"a")),
            Name((CONFIG_FIRST, b"k"), CONFIG_REALM), Name((CONFIG_FIRST, b"k", b"p"), CONFIG_REALM))
 

@@ -9,8 +9,7 @@ from runs.harness import Report, folder_of, printed, run
 
 BREAKS = ("README.md",)
 
-# A run of a program of MIT's.
-mit = partial(run, env=SURROUNDINGS)
+mit = partial(run, env=SURROUNDINGS)  # a run of a program of MIT's
 
 
 def check(report: Report, program: str) -> None:

@@ -12,15 +12,12 @@ from pathlib import Path
 from proving import compiler
 from proving.built import folder_of, not_made_below
 
-# What the compiler says of each check, and its status if a name fits no function.
-USUAL = re.compile(r"(?:by-macro:|logic|statements|crate) ")
-FITS_NOTHING = 2
+USUAL = re.compile(r"(?:by-macro:|logic|statements|crate) ")  # what the compiler says of each check
+FITS_NOTHING = 2  # its status if a name fits no function
 DECLARED = re.compile(r"\b(?:fn|mod|struct|enum|trait) (\w+)")
-
-# The crate of the theorems, how one of its items begins, after its comments, and a name in it.
-SAMPLES = "samples"
-ITEM = re.compile(r"(?:--.*\n)*(?:(?:abbrev|unfoldable|pub|record|data) )*([^\s:({]+) ?[:({]")
-NAME = re.compile(r"[^\s(){};,.∷]+")
+SAMPLES = "samples"  # the crate of the theorems
+ITEM = re.compile(r"(?:--.*\n)*(?:(?:abbrev|unfoldable|pub|record|data) )*([^\s:({]+) ?[:({]")  # how its items begin
+NAME = re.compile(r"[^\s(){};,.∷]+")  # a name in one
 
 # A function whose proof reads a theorem.
 SOURCE = """//! One theorem.

@@ -12,11 +12,8 @@ from threading import Lock, Thread, get_ident
 
 from proving import compiler
 
-# What the other command reads once the first has ended well.
-ENDED = b"ended\n"
-
-# How often it looks for what it waits for.
-SECONDS = 2
+ENDED = b"ended\n"  # what the other command reads once the first has ended well
+SECONDS = 2  # how often it looks for what it waits for
 
 
 def end(other: subprocess.Popen, first: subprocess.Popen | None) -> None:

@@ -14,8 +14,7 @@ from pathlib import Path
 
 from proving.edited import TOP
 
-# The most memory that a check takes, in KB.
-MEMORY = 3_500_000
+MEMORY = 3_500_000  # the most memory that a check takes, in KB
 
 # How a check names an open goal: in a function that returns a value, and in one that does not.
 OPEN_GOAL = re.compile(r"note: \S+: it is not proved that .*?\(`([\w-]+)`\)")

@@ -21,11 +21,8 @@ from pathlib import Path
 
 from runs.harness import TOP
 
-# What a check reads of a crate.
-PARTS = ("src", "specs", "proofs")
-
-# The functions and clauses that lines `only:` and `refused:` name.
-FUNCTION = re.compile(r"[\w:]+")
+PARTS = ("src", "specs", "proofs")  # what a check reads of a crate
+FUNCTION = re.compile(r"[\w:]+")  # lines `only:` and `refused:` name these, and clauses
 CLAUSE = re.compile(r"([\w:]+) ((?:returns|[\w-]+-requires)(?:-clause-[\w-]+)?|proof)|([A-Z]\w*) ([\w-]+)")
 
 

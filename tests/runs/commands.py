@@ -12,13 +12,11 @@ from makers.images import (B, END, HOST, OFFSET, PA_TYPE, TICKET, TWO, USUAL, VE
 from runs.harness import Case, text
 from runs.undisturbed import Run, Undisturbed, frame, in_place, undisturbed
 
-# The script of most runs, the file before and after it, one that clashes with both its entries, and a walk.
-SCRIPT = b"add 3 17 1700000000 000102030405060708090a0b0c0d0e0f host/a@R\n"
-OLD, NEW, CLASH = keytab(), keytab(HOST), keytab(replace(B, key=b"other"))
+SCRIPT = b"add 3 17 1700000000 000102030405060708090a0b0c0d0e0f host/a@R\n"  # the script of most runs
+OLD, NEW = keytab(), keytab(HOST)  # the file before and after it
+CLASH = keytab(replace(B, key=b"other"))  # a keytab that clashes with TWO
 WALK = b"start\nstep 0\n"
-
-# A cache whose ticket is valid whenever a test runs.
-VALID = cache(replace(TICKET, endtime=2**32 - 1), PA_TYPE, fields=OFFSET)
+VALID = cache(replace(TICKET, endtime=2**32 - 1), PA_TYPE, fields=OFFSET)  # its ticket is valid whenever a test runs
 
 
 @dataclass(frozen=True)
@@ -125,8 +123,7 @@ def renamed(run: Undisturbed, name: str) -> Case:
     return Case(run.name, words, run.wanted, files, after, stdin)
 
 
-# The time of a run's start, which new entries get.
-NOW = 1_700_000_000
+NOW = 1_700_000_000  # the time of a run's start, which new entries get
 at_now = partial(undisturbed, clock=NOW)
 
 AES128 = "aes128-cts-hmac-sha1-96"

@@ -14,12 +14,10 @@ from contextlib import contextmanager
 from dataclasses import dataclass, field, replace
 from pathlib import Path
 
-# The repository, and the option by which messages are explained.
-TOP = os.path.dirname(os.path.dirname(os.path.dirname(os.path.abspath(__file__))))
-EXPLAIN = "--explain"
-
-# Longer than any run takes. With more input bytes an unproved program takes longer: it checks each access to memory.
-SECONDS, LARGE = 60, 1_000_000
+TOP = os.path.dirname(os.path.dirname(os.path.dirname(os.path.abspath(__file__))))  # the repository
+EXPLAIN = "--explain"  # the option by which messages are explained
+SECONDS = 60  # longer than any run takes
+LARGE = 1_000_000  # with more input bytes an unproved program takes longer: it checks each access to memory
 
 
 @dataclass(frozen=True)
@@ -185,8 +183,7 @@ def faults_of(case: Case, got: Outcome, after: dict[str, bytes]) -> list[str]:
     return differences(case.wanted, got) + [f"file {name} is not as it should be" for name in wrong]
 
 
-# What checks a program, and reports that.
-Check = Callable[[Report, str], None]
+Check = Callable[[Report, str], None]  # what checks a program, and reports that
 
 
 def every(*checks: Check, of: str = "", needs: tuple[str, ...] = (), lack: Callable[[], str] = str) -> Check:
@@ -203,9 +200,7 @@ def every(*checks: Check, of: str = "", needs: tuple[str, ...] = (), lack: Calla
     return check
 
 
-# A line is the words after the program's name. If blanks separate them, a row has it as one text.
-Line = tuple[str | bytes, ...]
-
+Line = tuple[str | bytes, ...]  # the words after the program's name; if blanks part them, a row has them as one text
 BAD_LINE = message(2, "bad command line")
 
 
@@ -247,8 +242,7 @@ def over(name: str, line: str | Line, image: bytes | None, wanted: Outcome | lis
                 files_after or files, given if isinstance(given, bytes) else text(given))
 
 
-# A row is checked as a case is. One of large files is a function, which makes it when it is run.
-Row = Case | Callable[[], Case]
+Row = Case | Callable[[], Case]  # checked as a case is; one of large files is a function, which makes it when it is run
 
 
 def check_rows(report: Report, program: str, rows: Iterable[Row]) -> None:

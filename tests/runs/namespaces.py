@@ -8,9 +8,9 @@ from shlex import quote
 
 from runs.harness import SECONDS, Outcome, folder_of, run
 
-# What makes the mounts, and starts the words after it; and what the system reports of the run, in its shell's place.
+# What makes the mounts, and starts the words after it.
 UNSHARE = ("unshare", "--mount") if os.geteuid() == 0 else ("unshare", "--mount", "--user", "--map-root-user")
-STATUS = "/proc/$$/status"
+STATUS = "/proc/$$/status"  # what the system reports of the run, in its shell's place
 
 
 def front(mounts: dict[str, str]) -> list[str]:

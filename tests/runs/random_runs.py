@@ -10,9 +10,8 @@ from shlex import quote
 
 from runs.harness import Case, Report
 
-# An unproved program is slow: it runs one of this many numbers. And the folder of the cases that went wrong.
-ONE_IN = 10
-KEPT = os.path.join(tempfile.gettempdir(), "krbfile-kept")
+ONE_IN = 10  # an unproved program is slow: it runs one of this many numbers
+KEPT = os.path.join(tempfile.gettempdir(), "krbfile-kept")  # the folder of the cases that went wrong
 
 
 def keep(name: str, case: Case, program: str = "krbfile") -> str:

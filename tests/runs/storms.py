@@ -10,13 +10,9 @@ from random import Random
 from runs.harness import SECONDS, piped
 from words.phrases import AFTERMATHS
 
-# A run that is refused has waited for another for this many seconds, or failed for another reason. One that saved, and
-# lost the change of another program, reports this; its status is 1.
-LEAST_WAIT = 9
-LOST = AFTERMATHS["lost change"].encode()
-
-# A run that reads no input starts when its shell has read a line.
-WAITS = ("sh", "-c", 'read -r line; exec "$0" "$@"')
+LEAST_WAIT = 9  # a run that is refused has waited for another for this many seconds, or failed for another reason
+LOST = AFTERMATHS["lost change"].encode()  # reported by a run that saved, and lost another program's change; status 1
+WAITS = ("sh", "-c", 'read -r line; exec "$0" "$@"')  # a run that reads no input starts when its shell has read a line
 
 
 @dataclass

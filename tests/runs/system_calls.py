@@ -14,8 +14,7 @@ from dataclasses import dataclass, replace
 from runs.harness import SECONDS, Case, Outcome, Report, faults_of, files_in, folder_of, mode_of_files, piped, run
 from runs.undisturbed import Run, preload_library, undisturbed
 
-# A line of a trace that begins a system call.
-CALL = re.compile(r"(\w+)\(")
+CALL = re.compile(r"(\w+)\(")  # a line of a trace that begins a system call
 
 # The calls by which a run accesses its files.
 CALLS = (

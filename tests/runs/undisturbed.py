@@ -11,10 +11,9 @@ from functools import cache, cached_property
 
 from runs.harness import EXPLAIN, Case, Line, Outcome, mode_of_files, run_case, shown, words_of
 
-# The option by which a file is saved in place. The program that is tested, once `use` has named it, and its runs.
 IN_PLACE = "--in-place"
-PROGRAM: list[str] = []
-SEEN: list[Case] = []
+PROGRAM: list[str] = []  # the program that is tested, once `use` has named it
+SEEN: list[Case] = []  # its runs
 
 
 def use(program: str) -> None:
@@ -71,8 +70,7 @@ class Undisturbed:
         return Case(self.name, self.words, self.wanted, self.files, self.files_after, self.stdin)
 
 
-# A run, with its result or with what nothing disturbs.
-Run = Case | Undisturbed
+Run = Case | Undisturbed  # a run, with its result or with what nothing disturbs
 
 
 def undisturbed(line: str | Line, stdin: bytes = b"", *, name: str = "", clock: int | None = None,

@@ -24,14 +24,11 @@ from system.saving import tree, write
 
 BREAKS = ("crates/krb_disk",)
 
-# How many runs there are at once, and parts of a listing as JSON, each with the member that begins with a name.
-MANY = 60
-NAMED = {"entries": "principal", "tickets": "server", "config": "key"}
-
-# The names by which the runs call the file, what is in the folder at the end, and a program that adds by `hold`.
-PATHS = ("k", "./k", "link")
-LEFT = {"k", "link"}
-ADDS = ("sh", os.path.join(TOP, "examples", "edit-keytab.sh"))
+MANY = 60  # how many runs there are at once
+NAMED = {"entries": "principal", "tickets": "server", "config": "key"}  # parts of JSON, each with the member of a name
+PATHS = ("k", "./k", "link")  # the names by which the runs call the file
+LEFT = {"k", "link"}  # what is in the folder at the end
+ADDS = ("sh", os.path.join(TOP, "examples", "edit-keytab.sh"))  # a program that adds by `hold`
 
 
 def removes(command: str) -> bool:
@@ -95,7 +92,7 @@ KINDS = (*(Kind(names, kills=kills) for names in (*OF_KEYTABS, *OF_CACHES, MIXED
          *(Kind(names, over_none=True, kills=kills) for names in ADDING for kills in (False, True)),
          *(Kind(names, with_mit=True) for names in (*ADDING, MIXED)))
 
-# The kinds in which other programs add by `hold`: these are the runs that are killed. Those with some runs in place.
+# The kinds in which other programs add by `hold`: these are the runs that are killed.
 HOLDS = (Kind(("ktedit", "hold", "ktremove", "hold")), Kind(("ktedit", "hold"), kills=True))
 PLACES = (*(Kind(names, in_place=True) for names in (("ktedit",), ("ktutil",), MIXED, BOTH)),
           *(Kind(names, in_place=True, kills=True) for names in (("ktedit",), BOTH)))

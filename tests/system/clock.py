@@ -17,8 +17,7 @@ from words.phrases import CLOCK
 
 BREAKS = ("crates/krb_audit/src/young.rt", "crates/krb_text/src/time.rt", "crates/krb_driver/src/beginning.rt")
 
-# A run, and the settings of its clock.
-Row = tuple[Case, dict[str, int]]
+Row = tuple[Case, dict[str, int]]  # a run, and the settings of its clock
 
 # Settings of the clock, and the time that is listed: 0 if the seconds do not fit 32 bits.
 KNOWN = [
@@ -27,8 +26,7 @@ KNOWN = [
     ({"FAIL_CLOCK": 1}, "1970-01-01T00:00:00Z"),
 ]
 
-# Clocks that cannot be read as seconds of 32 bits, and the messages about them.
-UNREAD = ({"CLOCK": 2**32}, {"CLOCK": 2**64 - 1}, {"FAIL_CLOCK": 1})
+UNREAD = ({"CLOCK": 2**32}, {"CLOCK": 2**64 - 1}, {"FAIL_CLOCK": 1})  # clocks that cannot be read as seconds of 32 bits
 NO_CLOCK = message(3, "cannot read the clock")
 EXPLAINED = Outcome(3, err=NO_CLOCK.err + f"krbfile: {CLOCK}\n".encode())
 

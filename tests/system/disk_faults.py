@@ -18,8 +18,7 @@ from words.phrases import CAUSES
 
 BREAKS = ("crates/krb_disk/src/fault.rt", "crates/krb_disk/src/calls", "crates/krb_files/src/cause.rt")
 
-# The calls that look at a path, and that open it, whichever the system has.
-LOOK, OPEN = "?statx,?newfstatat,?stat,?lstat", "?openat,?open"
+LOOK, OPEN = "?statx,?newfstatat,?stat,?lstat", "?openat,?open"  # what looks at a path, and opens it, whichever exists
 
 
 def named(errors: str) -> dict[str, str]:
@@ -39,8 +38,8 @@ FAILED = {
     ("fsync", ""): {"EBUSY": "error 16"}, ("rename", ""): named("EBUSY EIO"),
 }
 
-# More than the number of any error of the system; and the rename, and then the sync of the folder.
-MOST_ERRORS = 134
+MOST_ERRORS = 134  # more than the number of any error of the system
+# The rename, and then the sync of the folder.
 SYNCED = re.compile(r'^rename.*"d/k\.krbfile".* = 0\nopen.*"d", .* = (\d+)\nfsync\(\1\) += 0$', re.MULTILINE)
 
 

@@ -16,9 +16,8 @@ from words.phrases import CAUSES
 
 BREAKS = ("crates/krb_disk/src/save.rt", "crates/krb_disk/src/stage.rt", "crates/krb_disk/src/mode.rt")
 
-# Runs that change a file, the last one of no bytes, and modes of files that are replaced by their owner.
-ALL = (*CHANGES, *copies(("", TWO, b"", "into no bytes")))
-MODES = (0o400, 0o600, 0o640, 0o664, 0o604, 0o6755)
+ALL = (*CHANGES, *copies(("", TWO, b"", "into no bytes")))  # runs that change a file, the last one of no bytes
+MODES = (0o400, 0o600, 0o640, 0o664, 0o604, 0o6755)  # of files that are replaced by their owner
 
 
 def check_owned(report: Report, name: str, program: str, old: Owned, new: Owned, case: Run = ADD, **options) -> None:

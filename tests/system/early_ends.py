@@ -12,15 +12,14 @@ from words.phrases import ERRORS
 
 NO_MEMORY = message(4, "out of memory")
 
-# What a run says of a file that it cannot use: one that is never there, or, as removals then do nothing, a folder; in
-# JSON of ktcheck too, and the line of ktutil that reads it. What else a run does is the same if a file cannot be read or
-# written.
+# What a run says of a file that it cannot use: one that is never there, or, as removals then do nothing, a folder. What
+# else a run does is the same if a file cannot be read or written.
 UNUSED = {"none": message(1, "none: no such file").err, ".": message(3, ".: cannot read").err}
-READ_MISSING, OBJECT = b"rkt none\n", unchecked("none", "no such file", 1)
+READ_MISSING = b"rkt none\n"  # the line of ktutil that reads it
+OBJECT = unchecked("none", "no such file", 1)  # what ktcheck says of it in JSON
 
-# The commands that take several files, one after the other; and a run's end, and the files after it.
-OVER_FILES = ("klist", "show", "ktcheck", "ktremove", "ccremove")
-End = tuple[Outcome, dict[str, bytes]]
+OVER_FILES = ("klist", "show", "ktcheck", "ktremove", "ccremove")  # the commands that take several files, in turn
+End = tuple[Outcome, dict[str, bytes]]  # a run's end, and the files after it
 
 
 @dataclass(frozen=True)

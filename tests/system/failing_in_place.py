@@ -19,9 +19,8 @@ from words.phrases import AFTERMATHS, CAUSES
 
 BREAKS = ("crates/krb_disk/src/in_place", "crates/krb_disk/src/in_place.rt", "crates/krb_disk/src/patch.rt")
 
-# The place from which a call writes, or cuts. The calls that change a file, whose order is proved, and their errors.
-PLACE = re.compile(r"(?:pwrite64\(\d+, .*, \d+|ftruncate\(\d+), (\d+)\) ")
-CHANGES = ("pwrite64", "ftruncate", "fsync")
+PLACE = re.compile(r"(?:pwrite64\(\d+, .*, \d+|ftruncate\(\d+), (\d+)\) ")  # from where a call writes, or cuts
+CHANGES = ("pwrite64", "ftruncate", "fsync")  # the calls that change a file, whose order is proved
 ERRORS = ("EIO", "ENOSPC", "EDQUOT")
 
 

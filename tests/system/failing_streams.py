@@ -19,13 +19,12 @@ from system.saving import reported
 
 BREAKS = ("crates/krb_files", "crates/krb_commands", "crates/krb_driver/src/reporting")
 
-# Errors, more bytes than any read or write moves, and few.
 ERRORS = (EINTR, EAGAIN, ENOSPC, ENOMEM, EACCES)
-WHOLE, FEW = 1_000_000, 60
+WHOLE, FEW = 1_000_000, 60  # more bytes than any read or write moves, and few
 NO_OUTPUT = message(3, "cannot write output")
-
-# What may fail in each run, and also in one of a command that saves, and of one that saves and reads an input.
-OF_EACH, OF_SAVE, OF_INPUT = ("FAIL_READ", "FAIL_WRITE", "ZERO_WRITE"), ("FAIL_SAVE", "ZERO_SAVE"), ("FAIL_INPUT",)
+OF_EACH = ("FAIL_READ", "FAIL_WRITE", "ZERO_WRITE")  # what may fail in each run
+OF_SAVE = ("FAIL_SAVE", "ZERO_SAVE")  # and also in one of a command that saves
+OF_INPUT = ("FAIL_INPUT",)  # and of one that saves and reads an input
 
 # How many bytes a call moves, and how one fails: over small files, and over larger ones.
 OF_SMALL = (*((WHOLE, error) for error in ERRORS), (FEW, EINTR), (FEW, ENOSPC))

@@ -24,17 +24,16 @@ BREAKS = ("crates/krb_disk",)
 
 ERRORS = ("EIO", "ENOSPC", "EACCES", "EPERM", "EINTR", "ENOMEM")
 
-# The calls that are repeated if they were interrupted, as reads and writes are not; and what an earlier save left.
+# The calls that are repeated if they were interrupted, as reads and writes are not.
 REPEATED = ("open", "openat", "flock", "fchmod", "fsync", "pwrite64", "ftruncate")
-REMAINS = b"remains"
+REMAINS = b"remains"  # what an earlier save left
 
 # The calls without which a run does the same: those about the system's own files, the folder and what was replaced, the
 # lock of a file, which is tried by another handle too, and each close.
 SPARED = re.compile(r'close|.*[<"]/proc/|.*"\."|.*\(deleted\)|(?:flock|fsync)\((?!.*\.krbfile>)')
 
-# A look at one of several files, which may be a pipe, and an owner that may not be set, so that the mode is narrowed.
-LOOK = re.compile(r'\w*stat\w*\((?:AT_FDCWD\S* )?"')
-NARROWED = re.compile(r"fchown.* (?:EACCES|EPERM) ")
+LOOK = re.compile(r'\w*stat\w*\((?:AT_FDCWD\S* )?"')  # a look at one of several files, which may be a pipe
+NARROWED = re.compile(r"fchown.* (?:EACCES|EPERM) ")  # an owner that may not be set, so that the mode is narrowed
 
 # Lines of ktutil that list, save and load, and runs over two files.
 TALK = undisturbed("ktutil", b"rkt j\nl\nwkt k\nwkt n\nl -e\nrkt n\nl\n", j=TWO, k=keytab(B))

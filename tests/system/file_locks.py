@@ -20,9 +20,10 @@ from system.saving import (ADD, B_OLD, EQUAL, LONGER, PLACED, SAVED, check_over,
 
 BREAKS = ("crates/krb_disk/src/looks/locks.rt", "crates/krb_disk/src/deadline.rt")
 
-# A run that gives up takes this many seconds, however busy the machine is; one that needs no hold has ended within the
-# third. And how many runs wait at the same time.
-LEAST_WAIT, LONGEST_WAIT, AT_ONCE, RUNS = 9, 20, 3, 8
+LEAST_WAIT = 9  # a run that gives up takes so many seconds at least
+LONGEST_WAIT = 20  # and so many at most, however busy the machine is
+AT_ONCE = 3  # one that needs no hold has ended within so many
+RUNS = 8  # how many runs wait at the same time
 
 # Runs that change a file, that have nothing to save, and that take no lock, in both ways if there are two.
 BOTH_WAYS, LEAVING, LOCKING_NOTHING = (both_ways(*runs) for runs in (CHANGES, LEAVES, READS))

@@ -24,20 +24,21 @@ from words.phrases import AFTERMATHS, BEGINS_AS_CACHE, CAUSES, LEAVE_OUT, NOT_RE
 
 BREAKS = ("crates/krb_disk/src/in_place", "crates/krb_disk/src/in_place.rt", "crates/krb_disk/src/replacing.rt")
 
-# A keytab that fills a page of 4,096 bytes but for less than an entry.
-FULL = keytab(*[HOST] * 79, Entry((b"x" * 14,)))
+FULL = keytab(*[HOST] * 79, Entry((b"x" * 14,)))  # a keytab that fills a page of 4,096 bytes but for less than an entry
 TOO_MUCH = undisturbed("ktedit k", SCRIPT, k=FULL, name="adds to a full page")
 LESS = undisturbed("ktedit k", b"cut 2\n", k=FULL, name="removes from a full page")
 
-# A keytab whose hole takes no room on a disk, the room that is left there, and a script that adds 20,000 bytes to the
-# hole and 15,000 behind it.
-SPARSE = keytab(HOST, 200_000)
-SPARSE_FROM, ROOM = 100, 24_576
+SPARSE = keytab(HOST, 200_000)  # a keytab whose hole takes no room on a disk
+SPARSE_FROM = 100  # how many of its bytes are written
+ROOM = 24_576  # what room is left on the disk
+# A script that adds 20,000 bytes to the hole and 15,000 behind it.
 INTO_BOTH = "".join(f"add 3 17 1 {'00' * 16} {'z' * length}@R\n" for length in (20_000, 15_000)).encode()
 
-# A mode, and an access list of it by which another user may read the file too, as the system stores it: a tag,
-# permissions and a number for each entry.
-MODE, NOBODY = 0o640, 0xffffffff
+MODE = 0o640
+NOBODY = 0xffffffff  # the number of an entry that is about no single user
+
+# An access list of that mode by which another user may read the file too, as the system stores it: a tag, permissions
+# and a number for each entry.
 LIST = struct.pack("<I", 2) + b"".join(struct.pack("<HHI", *entry) for entry in (
     (1, 6, NOBODY), (2, 4, 1234), (4, 4, NOBODY), (16, 4, NOBODY), (32, 0, NOBODY)))
 

@@ -24,12 +24,9 @@ from words.phrases import (BAD_DEFAULT, BAD_HEADER, BEGINS_AS_CACHE, BEGINS_AS_N
 BREAKS = ("crates/krb_editors/src/hold", "crates/krb_editors/src/hold.rt", "crates/krb_files/src/held_name.rt",
           "crates/krb_disk/src/held.rt")
 
-# A keytab whose entries MIT's programs do not see.
-UNSEEN = keytab(Entry((b"h",), timestamp=0, enctype=1, key=b""), B)
-
-# Lines that hold a keytab, in place too, and a cache; a keytab without an entry, and its frame.
-K, PLACED, C = "hold -k k", f"hold {IN_PLACE} -k k", "hold k"
-NONE, EMPTY = keytab(), frame(keytab())
+UNSEEN = keytab(Entry((b"h",), timestamp=0, enctype=1, key=b""), B)  # a keytab whose entries MIT's programs do not see
+K, PLACED, C = "hold -k k", f"hold {IN_PLACE} -k k", "hold k"  # lines that hold a keytab, in place too, and a cache
+NONE, EMPTY = keytab(), frame(keytab())  # a keytab without an entry, and its frame
 
 # Inputs that are no whole frame: cut, longer than it says, and of a length that is spelled in another way.
 CUT = (b"\n", b"2", b"2\n", b"2\n\5", b"98\n" + TWO[:-1], b"98" + TWO, TWO)
@@ -71,9 +68,9 @@ def damaged(fault: int, place: int) -> tuple[str, str]:
     return "input: refused 1", f"input: fault {fault} at {place}\nkrbfile: {GIVEN_DAMAGED}"
 
 
-# The message about other inputs, what is in the way, and a keytab beside what a killed run left.
-NOT_A_FRAME, IN_THE_WAY = ("input is not whole", NOT_WHOLE), {"setting": in_the_way}
-LEFT = {"k": TWO, "k.krbfile": b"left"}
+NOT_A_FRAME = ("input is not whole", NOT_WHOLE)  # the message about other inputs
+IN_THE_WAY = {"setting": in_the_way}
+LEFT = {"k": TWO, "k.krbfile": b"left"}  # a keytab beside what a killed run left
 
 CASES = [
     *(given(line, TWO, b"") for line in (K, PLACED)), given(K, None, b""), given(C, USUAL, b""),

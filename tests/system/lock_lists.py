@@ -23,12 +23,12 @@ def lock(file: str, kind: str = "POSIX  ADVISORY  WRITE 12") -> bytes:
     return f"1: {kind} {file} 0 EOF\n".encode()
 
 
-# A lock to write on the file and one to read, for which only a save in place waits, and the lock that another run has.
-LOCK, NO_LOCK = lock("00:00:0"), lock("00:00:0", "POSIX  ADVISORY  READ 12")
-FLOCK = lock("00:00:0", "FLOCK  ADVISORY  WRITE 9")
+LOCK = lock("00:00:0")  # a lock to write on the file
+NO_LOCK = lock("00:00:0", "POSIX  ADVISORY  READ 12")  # one to read, for which only a save in place waits
+FLOCK = lock("00:00:0", "FLOCK  ADVISORY  WRITE 9")  # the lock that another run has
+OPEN_FILE = b"pos:\t0\nflags:\t0100001\nmnt_id:\t25\nino:\t131\n"  # the description of an open file, on mount 25
 
-# The description of an open file, on mount 25, and a list of mounts, one with a name that is not UTF-8.
-OPEN_FILE = b"pos:\t0\nflags:\t0100001\nmnt_id:\t25\nino:\t131\n"
+# A list of mounts, one with a name that is not UTF-8.
 MOUNTS = (b"24 1 0:37 / / rw,relatime - overlay overlay rw\n26 24 0:31 / /\xff rw - tmpfs t1 rw\n"
           b"25 24 0:38 / /tmp rw shared:2 - tmpfs t2 rw\n")
 
@@ -42,13 +42,11 @@ LOCK_LINES = {
     (False, True, True): (lock("00:1f:0"),), (True, True, False): (lock("00:26:131"), lock("00:00:131")),
 }
 
-# How many milliseconds pass before a wait ends, by the cause reported then, and how many more at most: where time
-# passes by sleeps alone, which is also the most that is slept for a lock that is there once, and by looks at the clock.
-WAITS = {"in use": 10_000, "in the way": 1_000}
-MOMENT, MORE = 100, 2_000
-
-# A list without an end, and how often the list of locks is read in each look.
-ENDLESS, READINGS = None, 5
+WAITS = {"in use": 10_000, "in the way": 1_000}  # the milliseconds before a wait ends, by the cause reported then
+MOMENT = 100  # more at most, if time passes by sleeps alone; also the most that is slept for a lock that is there once
+MORE = 2_000  # and if time passes by looks at the clock
+ENDLESS = None  # a list without an end
+READINGS = 5  # how often the list of locks is read in each look
 
 # Saves, how often each looks for locks, and those that it waits for. In place one that makes the file longer looks
 # once more.

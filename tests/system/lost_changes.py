@@ -28,16 +28,13 @@ TALK = undisturbed("ktutil", b"rkt j\nwkt k\nfrob\nwkt FILE:k\n", j=keytab(B), k
                    name="adds, is at fault, and is refused")
 CASES_OF_ALL = (*CHANGES_OF_ALL, TALK)
 
-# Where a run is halted: at the last reading of the locks, and behind its rename. And in place: when its bytes are
-# written over, cut off, and synced, and at the last reading of the locks of one that grows.
+# Where a run is halted: at the last reading of the locks, and behind its rename.
 WATCHED, RENAMED = Halt("openat", 2 * READINGS, ("/proc/locks",)), Halt("?rename,?renameat,?renameat2")
-WRITTEN, CUT, SYNCED = Halt("pwrite64"), Halt("ftruncate"), Halt("fsync")
-COMPARED = Halt("lseek", 2)
+WRITTEN, CUT, SYNCED = Halt("pwrite64"), Halt("ftruncate"), Halt("fsync")  # in place, at each of these
+COMPARED = Halt("lseek", 2)  # at the last reading of the locks, in place, of one that grows
 
 Change = Callable[[BinaryIO], object]
-
-# What another program adds at the end.
-MORE = b"more"
+MORE = b"more"  # what another program adds at the end
 
 # What another program does to the file, by its handle, and whether that leaves other bytes.
 CHANGES: dict[str, tuple[Change, bool]] = {
@@ -61,8 +58,7 @@ def with_more(case: Case) -> Case:
     return replace(case, files_after={**case.files_after, name: case.files_after[name] + MORE})
 
 
-# A run, where it is halted, and the change then.
-Row = tuple[Case, Halt, Change]
+Row = tuple[Case, Halt, Change]  # a run, where it is halted, and the change then
 
 
 def of_each() -> Iterator[Row]:

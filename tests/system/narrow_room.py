@@ -21,12 +21,10 @@ BREAKS = ("crates/krb_wire/src/memory.rt", "crates/krb_wire/src/limits.rt", "cra
 
 STACK = 256 * 1024
 SPACE = 64 * 1024 * 1024
-
-# How many of the greatest files a run checks, and the memory for it, which is less than that of the files. The last
-# line of a hold without memory, and the commands that may print, or save, a part of what they do.
-MANY, ROOM = 40, 256 * 1024 * 1024
-HOLD_SPENT = last_line("ENOMEM", 4)
-PARTLY = ("ktutil", *(name for name, command in COMMANDS.items() if command.prints_early))
+MANY = 40  # how many of the greatest files a run checks
+ROOM = 256 * 1024 * 1024  # the memory for it, which is less than that of the files
+HOLD_SPENT = last_line("ENOMEM", 4)  # the last line of a hold without memory
+PARTLY = ("ktutil", *(name for name, command in COMMANDS.items() if command.prints_early))  # may print, or save, a part
 
 
 def is_early(case: Case, got: Outcome, after: dict[str, bytes]) -> bool:

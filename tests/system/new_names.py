@@ -19,8 +19,7 @@ from words.phrases import CAUSES
 
 BREAKS = ("crates/krb_disk/src/new_file.rt", "crates/krb_disk/src/target.rt", "crates/krb_disk/src/stage.rt")
 
-# Another user who is not root.
-STRANGER = 1234
+STRANGER = 1234  # another user who is not root
 
 
 def own(path: str) -> str:

@@ -21,8 +21,7 @@ from system.failing_streams import NO_OUTPUT, ends_in_output
 
 BREAKS = ("crates/krb_files/src/output.rt", "crates/krb_files/src/reader.rt")
 
-# A listing of more than a pipe takes: 300 lines of 1000 bytes.
-LONG = undisturbed("klist -k k", k=keytab(*[Entry((b"x" * 992,))] * 300))
+LONG = undisturbed("klist -k k", k=keytab(*[Entry((b"x" * 992,))] * 300))  # 300 lines of 1000 bytes overfill a pipe
 
 # Runs of ktutil that do not depend on the clock.
 FILES = {"k": TWO, "j": keytab(HOST), "n": keytab(B)}
@@ -31,9 +30,8 @@ TALKS = (
     undisturbed("ktutil", b"frob\nrkt k\nrkt j\nwkt n\n", name="is at fault", **FILES),
 )
 
-# A buffered write has at most one more line or element, all below 2,000 bytes here. No message is
-# longer than a write may be.
-LONGEST, MESSAGE = 32_768 + 2_000, 1 << 20
+LONGEST = 32_768 + 2_000  # a buffered write has at most one more line or element, all below 2,000 bytes here
+MESSAGE = 1 << 20  # no message is longer than a write may be
 
 
 def check_closed_pipe(report: Report, program: str) -> None:

@@ -24,8 +24,7 @@ from words.phrases import CAUSES
 
 BREAKS = ("crates/krb_disk/src/open_file.rt", "crates/krb_disk/src/read.rt")
 
-# Names of a pipe, of a link to it, and of other things.
-PIPES, OTHERS = ("pipe", "link"), (".", "/dev/null", "/dev/full/k")
+PIPES, OTHERS = ("pipe", "link"), (".", "/dev/null", "/dev/full/k")  # a pipe and a link to it, and other things
 
 # Lines over several files, and what they print of those that are plain; and an overview of one.
 SEVERAL = {
@@ -41,8 +40,7 @@ SEVERAL = {
 }
 
 
-# What says whether a file was used.
-IsUsed = Callable[[], bool]
+IsUsed = Callable[[], bool]  # what says whether a file was used
 
 
 @contextmanager

@@ -16,14 +16,13 @@ from system.early_ends import NO_MEMORY, Ends
 
 BREAKS = ("crates/krb_wire/src/memory.rt", "crates/wiping", "crates/krb_commands")
 
-# How many allocations of a run are refused: over larger files some, and over small ones all. The settings that refuse
-# one, and those that refuse all from it on.
-SOME, ALL = 45, 5_000
-WAYS = {"once": {}, "from it on": {"REFUSE_LASTS": 1}}
+SOME = 45  # how many allocations of a run are refused over larger files
+ALL = 5_000  # over small ones, more than there are: all
+WAYS = {"once": {}, "from it on": {"REFUSE_LASTS": 1}}  # settings that refuse one, and those that refuse all from it on
 
-# A check that explains what it finds, with hints, and the cache of a user whose environment names none.
+# A check that explains what it finds, with hints.
 EXPLAINED = at_now((EXPLAIN, "ktcheck", "a b", "r", "no"), **{"a b": keytab(HOST, HOST), "r": rotated_keytab(4)})
-OWN = f"/tmp/krb5cc_{os.getuid()}"
+OWN = f"/tmp/krb5cc_{os.getuid()}"  # the cache of a user whose environment names none
 
 # Lines that leave out the file, with the environment, and the file that they are for.
 DEFAULTS = (

@@ -32,9 +32,8 @@ def named(name: str, make: Callable[[str], None]) -> Place:
 
 at_name = partial(at, "k")
 
-# Another file, or none, under the name of a run's; a new file at the end of a link; and the link.
-OTHER, GONE = named("k", lambda path: write(path, B_OLD)), at_name(os.remove)
-MAKE, LINK = named("file", lambda path: write(path, OLD)), link("k", "file")
+OTHER, GONE = named("k", lambda path: write(path, B_OLD)), at_name(os.remove)  # another file, or none, under its name
+MAKE, LINK = named("file", lambda path: write(path, OLD)), link("k", "file")  # a new file at a link's end, and the link
 
 # What replaces the file after it was loaded, or found to be missing, and whether there was one. The last ones replace
 # the new file.

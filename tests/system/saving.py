@@ -19,10 +19,10 @@ from words.phrases import AFTERMATHS, CAUSES, ERRORS
 B_OLD, B_NEW, B_SAVED = keytab(B), keytab(B, HOST), Outcome(0, b"placed 47\n")
 UNSAVED, UNREAD = message(3, "k: cannot write"), message(3, "k: cannot read")
 
-# Lines of ktutil that add an entry, a user who is not root, a group that user may be in, and an entry that is longer.
-LINES = text([ADDENT, KEY])
-USER, GROUP = 65_534, 54_321
-ADD_LONG = b"add 3 17 1700000000 000102030405060708090a0b0c0d0e0f a/long/name@R\n"
+LINES = text([ADDENT, KEY])  # lines of ktutil that add an entry
+USER = 65_534  # a user who is not root
+GROUP = 54_321  # a group that user may be in
+ADD_LONG = b"add 3 17 1700000000 000102030405060708090a0b0c0d0e0f a/long/name@R\n"  # an entry that is longer
 
 # Runs that make the file longer, that change old bytes too, and that keep its length or make it shorter.
 LONGER = undisturbed("ktedit k", ADD_LONG, k=TWO, name="adds at the end")
@@ -31,12 +31,9 @@ EQUAL = undisturbed("ktedit k", b"cut 2\n", k=TWO, name="removes")
 SHORTER = undisturbed("ktedit k", b"rewrite\n", k=keytab(60, HOST, 41, B), name="rewrites")
 CUT_OFF = undisturbed("ktedit k", b"rewrite\n", k=keytab(HOST, 41), name="drops the hole at the end")
 
-# Runs that can save in place, without that, and the last line of a hold that saved.
-PLACED = (LONGER, MIXED, EQUAL, SHORTER, CUT_OFF, *CHANGES)
-HOLD_SAVED = b"saved\n"
-
-# What makes something in a folder.
-Place = Callable[[str], object]
+PLACED = (LONGER, MIXED, EQUAL, SHORTER, CUT_OFF, *CHANGES)  # runs that can save in place, without that
+HOLD_SAVED = b"saved\n"  # the last line of a hold that saved
+Place = Callable[[str], object]  # what makes something in a folder
 
 
 @dataclass(frozen=True)

@@ -17,9 +17,9 @@ from theorems.mit_listings import cache_listing, credentials, keytab_listing, pa
 # that is longer than the file, and krbfile refuses version 2.
 ALONE = ("heim-names", "v1-le-mit-two", "v1-le-mit-removed", "kinit-v2")
 
-# Damaged files: MIT's programs list what is before the damage, and do not report it. Caches with tickets that MIT's
-# klist cannot decode: of such a ticket it shows no encryption type.
+# Damaged files: MIT's programs list what is before the damage, and do not report it.
 DAMAGED = ("hole-last-truncated", "stray-3-bytes", "truncated")
+# Caches with tickets that MIT's klist cannot decode: of such a ticket it shows no encryption type.
 UNDECODED = ("lib-authdata-addrs", "lib-removed", "lib-removed-before", "mit-t_marshal-v3", "mit-t_marshal-v4")
 
 # For each kind of file its title, MIT's listing, and the definition of ours, with those columns.
@@ -153,9 +153,8 @@ def changes() -> Module:
 
 FOUND = re.compile(r"found kvno (\d+) etype (\d+) time (\d+) keylen (\d+) first (\w\w)")
 
-# MIT's error numbers. A look-up that MIT's library answers otherwise: it takes version 300 for 44, of the same 8 bits.
-MIT_CODES = {"-1765328203": "NotFound", "-1765328154": "KvnoNotFound"}
-WRAPPED = "find-java-new-300-18-user@PEER.TEST"
+MIT_CODES = {"-1765328203": "NotFound", "-1765328154": "KvnoNotFound"}  # MIT's error numbers
+WRAPPED = "find-java-new-300-18-user@PEER.TEST"  # where MIT's library takes version 300 for 44, of the same 8 bits
 
 ENTRY_FACTS = """-- the version, encryption type and time of an entry, the length of its key, and the first byte of that
 abbrev facts : PlacedEntry → ℕ × ℕ × ℕ × ℕ × ℕ

@@ -81,11 +81,11 @@ SAME: dict[str, str] = {
         *(f"{' '.join(run.words)} -h" for run in (*READS, *CHANGES) if run.words[0] == name))) for name in COMMANDS},
 }
 
-# What help names: the commands, each its own, and defaults. And the toolchain that the version names.
+# What help names: the commands, each its own, and defaults.
 HELP = {**{f"{command} --help": f"krbfile {command}" for command in COMMANDS}, "--help": " ".join(COMMANDS),
         "klist -h": "KRB5CCNAME KRB5_KTNAME /etc/krb5.keytab /tmp/krb5cc_",
         "ktcheck -h": "KRB5_KTNAME /etc/krb5.keytab"}
-TOOLCHAIN = "logic dac8208d650f15bf"
+TOOLCHAIN = "logic dac8208d650f15bf"  # that the version names
 
 FILES = {"k": TWO, "t": keytab(B), "c": USUAL, "r": SAMPLES["rotated.keytab"], "m": SAMPLES["mixed.keytab"],
          "d": SAMPLES["krb5cc_1"], "o": SAMPLES["krb5cc_0"]}

@@ -49,9 +49,8 @@ LINES = {
     "ktremove --enctype aes256-cts-hmac-sha1": {"aes256-cts-hmac-sha1-96"},
 }
 
-# The statuses that help lists, and how it ends.
-STATUSES = "01234"
-END = re.compile(r"\nStatuses:\n((?:  \d  .*\n)*)Example: (.*)\n  (.*krbfile.*)\n\Z")
+STATUSES = "01234"  # the statuses that help lists
+END = re.compile(r"\nStatuses:\n((?:  \d  .*\n)*)Example: (.*)\n  (.*krbfile.*)\n\Z")  # how it ends
 
 
 @cache

@@ -20,9 +20,7 @@ from words.phrases import (BEGINS_AS_CACHE, CAUSES, CLASH, LARGE, OTHER_FILES, S
 BREAKS = ("crates/krb_driver",)
 
 ADD = f"{ADD_HOST}\n".encode()
-
-# The options of a run whose input is a folder, which nothing can be read from.
-NO_INPUT = {"preexec_fn": lambda: os.dup2(os.open(".", os.O_RDONLY), 0)}
+NO_INPUT = {"preexec_fn": lambda: os.dup2(os.open(".", os.O_RDONLY), 0)}  # an input that is a folder cannot be read
 
 
 def socket_in(folder: str) -> None:

@@ -9,13 +9,10 @@ from runs.harness import Line, Outcome, Report, differences, files_in, folder_of
 from runs.terminal import WAYS
 from words.phrases import CAUSES, code
 
-# A damaged cache; and messages, each with its explanation or an empty text.
-CUT_CACHE = USUAL + b"\0"
-Output = tuple[tuple[str, str], ...]
-
-# The options of a run whose output takes nothing, and what is said of that.
-FULL = {"preexec_fn": lambda: os.dup2(os.open("/dev/full", os.O_WRONLY), 1)}
-FAILED = ("cannot write output", CAUSES["ENOSPC"])
+CUT_CACHE = USUAL + b"\0"  # a damaged cache
+Output = tuple[tuple[str, str], ...]  # messages, each with its explanation or an empty text
+FULL = {"preexec_fn": lambda: os.dup2(os.open("/dev/full", os.O_WRONLY), 1)}  # an output that takes nothing
+FAILED = ("cannot write output", CAUSES["ENOSPC"])  # what is said of that
 
 
 @dataclass(frozen=True)
@@ -102,8 +99,7 @@ def copy(options: str, source: bytes | None, target: bytes | None, *output: tupl
     return Explained(name, words, output, files, status=status, out=text(out), **more)
 
 
-# A copy finds nothing that was asked for.
-FINDS_NONE = ("k: refused 9", code(9, "ktcopy"))
+FINDS_NONE = ("k: refused 9", code(9, "ktcopy"))  # a copy finds nothing that was asked for
 
 
 def for_owner(folder: str) -> None:

@@ -11,11 +11,9 @@ from words.phrases import code
 BREAKS = ("crates/krb_driver/src/command_line", "crates/krb_command_line")
 
 MESSAGE = b"krbfile: bad command line\n"
-
-# A word that may be a key, what is printed in its place, and a word that is too short for a key.
-KEY = "00112233445566778899aabbccddeeff"
-DIGITS = "a word of hexadecimal digits"
-SHORT = "0123456789abcde"
+KEY = "00112233445566778899aabbccddeeff"  # a word that may be a key
+DIGITS = "a word of hexadecimal digits"  # what is printed in its place
+SHORT = "0123456789abcde"  # a word that is too short for a key
 
 # What is wrong, and lines with that mistake. If the line has a command, that command's help says more.
 MISTAKES: dict[str, str | list[Line]] = {

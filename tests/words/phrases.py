@@ -12,8 +12,7 @@ from pages.documents import read
 PAGE = read("docs/krbfile.1") + read("docs/krbfile.5")
 FORMATS = read("docs/FORMATS.md")
 
-# Phrases by number, and by the command whose phrase differs.
-Numbered = dict[tuple[int, str], str]
+Numbered = dict[tuple[int, str], str]  # phrases by number, and by the command whose phrase differs
 
 
 def part(page: str, start: str, end: str) -> str:
@@ -53,9 +52,8 @@ _, BEGINS_AS_KEYTAB, HELD_AS_KEYTAB, SHOWN_AS_NEITHER, BEGINS_AS_NO_CACHE, BAD_H
 # What a file is instead, by its first bytes.
 OTHER_FILES = displayed("In place of the last two of 2 a file that is known by its first bytes is named:")
 
-# The library's refusal of an image that is too long: the program says `file too large`. Why a text is not a name.
-TOO_LONG = "it is longer than the limit"
-NAMES = {1: "no realm", 2: "a backslash at the end", 3: "a second @", 4: "a / in the realm"}
+TOO_LONG = "it is longer than the limit"  # an image, to the library; the program says `file too large`
+NAMES = {1: "no realm", 2: "a backslash at the end", 3: "a second @", 4: "a / in the realm"}  # why a text is not a name
 
 # Why a call failed: the system's errors by their names, and what krbfile itself finds. And the names that hold has for
 # them.
@@ -66,10 +64,9 @@ CAUSES, ERRORS = (dict(zip((
         r"^\.It (.*) Ta (E\w+)$", PAGE.replace("Ar NAME Ns ", "NAME").replace("Ar number", "NUMBER"), re.MULTILINE),
         strict=True))
 
-# Lines of ktutil that ask for what it does not do, or for its commands; the library's phrase for what is in the way.
-NO_PASSWORDS = "keys are not made from passwords here"
-SEE_HELP = "see krbfile ktutil --help"
-LIBRARY_IN_THE_WAY = "the name of its new file is taken"
+NO_PASSWORDS = "keys are not made from passwords here"  # for a line of ktutil that asks for what it does not do
+SEE_HELP = "see krbfile ktutil --help"  # for one that asks for its commands
+LIBRARY_IN_THE_WAY = "the name of its new file is taken"  # the library's phrase for what is in the way
 
 # What a save left behind.
 AFTERMATHS = {"restored": "the old bytes are back", **dict(zip(
@@ -80,23 +77,20 @@ FINDINGS = {word: re.search(rf"^\.It Ic {word}\b.*\n(.*):$", PAGE, re.MULTILINE)
     "weak", "hidden", "same", "clash", "old", "mode", "size", "aged", "missing", "empty")}
 HINTS = dict(zip(("old", "weak", "same"), displayed("has hints for them, in this order:"), strict=True))
 
-# A clash of ktcopy, and what could be done; and a keytab that `wkt` saved.
-CLASH = "TO has another key for this name, version and type"
-TO_REPLACE = "--replace takes FROM's key"
-NO_ENTRY = "NAME has no entry"
+CLASH = "TO has another key for this name, version and type"  # a clash of ktcopy
+TO_REPLACE = "--replace takes FROM's key"  # what could be done
+NO_ENTRY = "NAME has no entry"  # a keytab that `wkt` saved
 
-# Why a file of a name with a type is not there, or is not written, and where a name that no word gives is from.
-NOT_READ = "only files are read, and this is TYPE"
-COLLECTION = "a collection; give one of its caches, DIR::FILE"
-LEAVE_OUT = "leave out TYPE"
-NAMED = "VARIABLE names it"
+NOT_READ = "only files are read, and this is TYPE"  # why a file of a name with a type is not there
+COLLECTION = "a collection; give one of its caches, DIR::FILE"  # the same of the type `DIR:`
+LEAVE_OUT = "leave out TYPE"  # why it is not written
+NAMED = "VARIABLE names it"  # where a name that no word gives is from
 DEFAULT = "the default name (krb5.conf is not read); give FILE"
 TO_NAME = "to name a principal, give -p"
 
-# What `hold` was given, and an output that it prints nothing to.
-NOT_WHOLE = "it is not a length, a newline and just as many bytes"
+NOT_WHOLE = "it is not a length, a newline and just as many bytes"  # what `hold` was given
 GIVEN_DAMAGED = "what was given is damaged"
-TO_A_PROGRAM = "the image is for a program; give it a pipe"
+TO_A_PROGRAM = "the image is for a program; give it a pipe"  # an output that it prints nothing to
 
 LARGE = "it has more than 16,777,216 bytes"
 CLOCK = "the clock is before 1970 or after 2106, or failed"

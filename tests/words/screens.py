@@ -12,18 +12,17 @@ from runs.undisturbed import Undisturbed, undisturbed
 
 BREAKS = ("crates/krb_terminal",)
 
-# What is escaped: each byte below hexadecimal 20 but newlines, 7f, and pairs of c2 and 80 to 9f. A part of a name, and
-# what a terminal is sent for it: its last c2 begins no pair.
+# What is escaped: each byte below hexadecimal 20 but newlines, 7f, and pairs of c2 and 80 to 9f.
 ESCAPED = re.compile(rb"[\x00-\x09\x0b-\x1f\x7f]|\xc2[\x80-\x9f]")
+# A part of a name, and what a terminal is sent for it: its last c2 begins no pair.
 WILD = b"\x1b]0;x\x07\r\x0b\x1f\x7f \xc2\x9b31m\xc2\x80\xc2\xa0\xc3\xa9\xc2\xc2\x9f\x9b\xff\xc2"
 TAMED = b"\\x1b]0;x\\x07\\x0d\\x0b\\x1f\\x7f \\xc2\\x9b31m\\xc2\\x80\xc2\xa0\xc3\xa9\xc2\\xc2\\x9f\x9b\xff\xc2"
 
 WILD_FILES = {"k": keytab(Entry((WILD, b"a")), B),
               "c": cache(replace(TICKET, server=Name((WILD, b"a"))), default=Name((WILD,)))}
 
-# The name of a file, which is UTF-8, and files with such a name that JSON prints.
-FILE = "k\x1b[2J\r\t\x7f\x9b31mé"
-TEXTS = {"j": keytab(Entry((FILE.encode(),))), "d": cache(default=Name((FILE.encode(),)))}
+FILE = "k\x1b[2J\r\t\x7f\x9b31mé"  # the name of a file, which is UTF-8
+TEXTS = {"j": keytab(Entry((FILE.encode(),))), "d": cache(default=Name((FILE.encode(),)))}  # with such a name, for JSON
 
 
 def named(*words: str, image: bytes | None = None) -> Undisturbed:
