@@ -47,7 +47,7 @@ def not_made_below(crate: str) -> set[str]:
 
 
 def is_same(crate: str, top: str) -> bool:
-    """Whether the sources of a crate are the same in another clone, and what it uses."""
+    """Whether another clone has the same sources of a crate, and the same row of crates.txt."""
     texts = [{path.relative_to(each): path.read_bytes() for path in sources_of(crate, each)} for each in (TOP, top)]
     return compiler.crates()[crate] == compiler.crates(top).get(crate) and texts[0] == texts[1]
 
