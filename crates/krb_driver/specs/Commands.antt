@@ -179,6 +179,7 @@ pub record Finishes {F : Type 0} (trait : Ghosts F) (line : Option ℕ) (effect 
   pub details : Details
   pub reported : Reports (about left) line details end.ending err err' end.status
   pub left_behind : details.aftermath ≡ reported_aftermath line effect end.ending (trait.aftermath new)
+  pub honest : trait.is_honest new → trait.aftermath new ≡ None
 
 module _ {F R W E : Type 0} (trait : Ghosts F) (plan : Option ℕ → CommandPlan) (Fairly : List Answer → Type 0) (old new : World F R W E) where
   -- a run of a command that ended so: its plan is that for the mode of the file that was loaded last; what it saves and prints and how it ends is a function of its calls' results

@@ -211,7 +211,8 @@ pub trait Files {
         None
     }
 
-    /// Returns what the last save left behind, if that is to be told.
+    /// Returns what the last save left behind, if that is to be reported. A save of honest files leaves nothing.
     fn aftermath(&self) -> Option<Aftermath>
-        ensures { result ≡ aftermath self.now };
+        ensures left { result ≡ aftermath self.now }
+        ensures honest { is_honest self.now → aftermath self.now ≡ None };
 }

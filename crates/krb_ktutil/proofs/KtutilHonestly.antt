@@ -1,10 +1,10 @@
 -- The lines of ktutil leave what is due over honest files.
-use Rattle.krb_ktutil.proofs.Cited.{◌≡◌, ◌⊎◌, inl, inr, ℕ, ◌+◌, ◌≤◌, Bool, true, false, List, [], ◌∷◌, ◌++◌, length, refl, sym, ap, subst, ◌∙◌, append_assoc, append-nil, arith, not, max, ◌&&◌, Option, None, Some, Err, false≢true, Ghosts, Watch, Effect, Fails, ErrorWatch, input_error, error_status, IsCame, Came, KtutilState, line_faults, plan_of, Prompts, Talk, goes_on, HandlesLine, IsFalse, if◌then◌else◌, Appends, true≢false, follow, Run, Reports, Shows, ends_by, Ending, is_spent, ReportsEnd-nothing, Spares, prompt_of, last_prompt, AreFirst, Continues, Stops, TalksOver, LoadFault, FileMap, SameFiles, CountsFailure, count-more, count-trans, same-trans, Appends-nil, Appends-trans, NoMemory, Details, finishes-lasts, TalkDue, DueReport, ReportsDue, quiet_run, final_report, line_report, last_due, due_after, run_of, talk_due, GivesLines, LeavesDue, LeavesDueUnlessFailed, TalksHonestly}
+use Rattle.krb_ktutil.proofs.Cited.{◌≡◌, ◌⊎◌, inl, inr, ℕ, ◌+◌, ◌≤◌, Bool, true, false, List, [], ◌∷◌, ◌++◌, length, refl, sym, ap, subst, ◌∙◌, append_assoc, append-nil, arith, not, max, ◌&&◌, Option, None, Some, Err, false≢true, Ghosts, Watch, Effect, Fails, ErrorWatch, input_error, error_status, IsCame, Came, KtutilState, line_faults, plan_of, Prompts, Talk, goes_on, HandlesLine, IsFalse, if◌then◌else◌, Appends, true≢false, follow, Run, Reports, Shows, ends_by, Ending, is_spent, ReportsEnd-nothing, Spares, prompt_of, last_prompt, AreFirst, Continues, Stops, TalksOver, LoadFault, FileMap, SameFiles, CountsFailure, count-more, count-trans, same-trans, Appends-nil, Appends-trans, NoMemory, Details, finishes-lasts, cond_both, TalkDue, DueReport, ReportsDue, quiet_run, final_report, line_report, last_due, due_after, run_of, talk_due, GivesLines, LeavesDue, LeavesDueUnlessFailed, TalksHonestly}
 use Rattle.std.proofs.Math.Bool.{and-false}
 use mathlib.Core.Path.{fun_ext}
 use Rattle.krb_files.specs.declared.aftermath.Aftermath.{Aftermath}
 use Rattle.krb_files.specs.declared.files.LoadFault.TheVariants as load
-use Rattle.krb_driver.specs.Commands.{Keeps, Settles, ShowsEnd, Displays, IsSpent, Saves, about, files_after, is_save, settled}
+use Rattle.krb_driver.specs.Commands.{Keeps, Settles, ShowsEnd, Displays, IsSpent, Saves, about, files_after, is_save, reported_aftermath, settled}
 use Rattle.krb_ktutil.proofs.InputLemmas.{AreLines, are_first, lines_after}
 use Rattle.krb_ktutil.proofs.KtutilDue.{Came-due, line_lasts, makes_due, makes_lasts}
 
@@ -104,9 +104,16 @@ module _ {F : Type 0} (trait : Ghosts F) (prompts : Bool) (now number : ℕ) (li
   line_comes : trait.is_honest old.files → LineDue ⊎ (CountsFailure (trait.failure_count old.files) (trait.failure_count new.files) ⊎ LineSpent)
   line_comes h = comes_by h (makes_due trait old.state new.state old.files handles.made handles.effect handles.quits (plan_of old.state now number line) handles.makes h) (handles.honest h)
 
+  -- nothing that a save left behind was reported
+  left_nothing : trait.is_honest old.files → handles.finishes.details.aftermath ≡ None
+  left_nothing honest =
+      let f = handles.finishes in
+      let saves = is_save handles.effect && not (is_spent handles.end.ending) in
+      f.left_behind ∙ ap (reported_aftermath (Some number) handles.effect handles.end.ending) (f.honest (handles_lasts.0 honest)) ∙ cond_both saves None None (λ (a : Option Aftermath). a ≡ None) (λ _. refl) (λ _. refl)
+
   -- what is due was printed and reported
-  shown_due : LineDue → IsFalse new.out.failed → (goes_on handles.quits handles.end.ending ≡ goes_on due.quits (run_of due.effect).ending) × IsShown prompts (run_of due.effect).out (line_report old.state.awaiting number due.effect) old new
-  shown_due is well =
+  shown_due : trait.is_honest old.files → LineDue → IsFalse new.out.failed → (goes_on handles.quits handles.end.ending ≡ goes_on due.quits (run_of due.effect).ending) × IsShown prompts (run_of due.effect).out (line_report old.state.awaiting number due.effect) old new
+  shown_due honest is well =
       let f = handles.finishes in
       let end = handles.end in
       let spares = subst (Spares old.state new.state) is.0.effect_is handles.spares in
@@ -121,22 +128,20 @@ module _ {F : Type 0} (trait : Ghosts F) (prompts : Bool) (now number : ℕ) (li
           reported = record {
             details = f.details;
             reported = subst (λ (e : Ending). Reports (about due.effect) (Some number) f.details e asked new.err end.status) done.1 reported;
-            untold = λ other. f.left_behind ∙ ap (λ (b : Bool). if b && not (is_spent end.ending) then trait.aftermath new.files else None) (ap is_save is.0.effect_is ∙ other);
+            untold = left_nothing honest;
           };
           worst = handles.worst;
         },
       )
 
   -- that memory ran out was reported
-  shown_spent : LineSpent → IsFalse new.out.failed → (handles.end.ending ≡ Err NoMemory) × IsShown prompts [] (final_report old.state.awaiting (ends_by NoMemory)) old new
-  shown_spent spent well =
+  shown_spent : trait.is_honest old.files → LineSpent → IsFalse new.out.failed → (handles.end.ending ≡ Err NoMemory) × IsShown prompts [] (final_report old.state.awaiting (ends_by NoMemory)) old new
+  shown_spent honest spent well =
       let f = handles.finishes in
       let end = handles.end in
       let done = (subst (ShowsEnd old.out new.out end.ending) spent.1.1 f.shown).done well in
-      let left = λ (b : Bool). if b then trait.aftermath new.files else None in
-      let untold = f.left_behind ∙ ap (λ (e : Ending). left (is_save handles.effect && not (is_spent e))) done.1 ∙ ap left (and-false (is_save handles.effect)) in
       let reported = subst (λ (e : Ending). Reports (about f.left) (Some number) f.details e asked new.err end.status) done.1 f.reported in
-      let bare = subst (λ (a : Option Aftermath). Reports (about f.left) (Some number) (record f.details { aftermath = a }) (Err NoMemory) asked new.err end.status) untold reported in (
+      let bare = subst (λ (a : Option Aftermath). Reports (about f.left) (Some number) (record f.details { aftermath = a }) (Err NoMemory) asked new.err end.status) (left_nothing honest) reported in (
         done.1,
         record {
           asked = asked;
@@ -146,7 +151,7 @@ module _ {F : Type 0} (trait : Ghosts F) (prompts : Bool) (now number : ℕ) (li
           reported = record {
             details = record f.details { aftermath = None };
             reported = record { reports = record { writes = bare.reports.writes; still = bare.reports.still }; status_is = bare.status_is };
-            untold = λ other. refl;
+            untold = refl;
           };
           worst = handles.worst;
         },
@@ -164,23 +169,23 @@ talk_lasts trait prompts now number (line ∷ lines) old new talked =
 
 module _ {F : Type 0} (trait : Ghosts F) (prompts : Bool) (now : ℕ) (final : Run) where
   -- a line was run and goes on
-  line_honestly : (number : ℕ) (line : List ℕ) (more : List (List ℕ)) (old mid new : Talk F) (asked : ErrorWatch) (prompted : Prompts prompts (prompt_of old.state.awaiting) old.err asked)
+  line_honestly : (number : ℕ) (line : List ℕ) (more : List (List ℕ)) (old mid new : Talk F) → trait.is_honest old.files → (asked : ErrorWatch) (prompted : Prompts prompts (prompt_of old.state.awaiting) old.err asked)
       (continues : Continues trait now number line (record old { err = asked }) mid) → trait.failure_count mid.files ≤ trait.failure_count new.files
       → LineDue trait prompts now number line old mid asked prompted continues.handles ⊎ (CountsFailure (trait.failure_count old.files) (trait.failure_count mid.files) ⊎ LineSpent trait prompts now number line old mid asked prompted continues.handles)
       → LeavesDueUnlessFailed trait prompts (talk_due final now (number + 1) more mid.state (trait.file mid.files)) mid new
       → LeavesDueUnlessFailed trait prompts (talk_due final now number (line ∷ more) old.state (trait.file old.files)) old new
-  line_honestly number line more old mid new asked prompted continues le comes (inl counts) =
+  line_honestly number line more old mid new honest asked prompted continues le comes (inl counts) =
       inl (count-trans (trait.failure_count old.files) (trait.failure_count mid.files) (trait.failure_count new.files) (handles_lasts trait prompts now number line old mid asked prompted continues.handles).1 le counts)
-  line_honestly number line more old mid new asked prompted continues le comes (inr (inl failed)) = inr (inl failed)
-  line_honestly number line more old mid new asked prompted continues le (inl is) (inr (inr leaves)) =
-      let shown = shown_due trait prompts now number line old mid asked prompted continues.handles is continues.well in
+  line_honestly number line more old mid new honest asked prompted continues le comes (inr (inl failed)) = inr (inl failed)
+  line_honestly number line more old mid new honest asked prompted continues le (inl is) (inr (inr leaves)) =
+      let shown = shown_due trait prompts now number line old mid asked prompted continues.handles honest is continues.well in
       let came = due trait prompts now number line old mid asked prompted continues.handles in
       let after = subst (λ (m : FileMap). LeavesDue trait prompts (talk_due final now (number + 1) more came.state m) mid new) (fun_ext is.1.1)
       (subst (λ (s : KtutilState). LeavesDue trait prompts (talk_due final now (number + 1) more s (trait.file mid.files)) mid new) is.0.state_is leaves) in
       inr (inr (rw (sym shown.0 ∙ continues.goes_on) (leaves_first trait prompts (run_of came.effect).out (line_report old.state.awaiting number came.effect) old mid shown.1 _ new after)))
-  line_honestly number line more old mid new asked prompted continues le (inr (inl counted)) (inr (inr leaves)) = inl (count-more (trait.failure_count old.files) (trait.failure_count mid.files) (trait.failure_count new.files) le counted)
-  line_honestly number line more old mid new asked prompted continues le (inr (inr spent)) (inr (inr leaves)) =
-      let ending_is = (shown_spent trait prompts now number line old mid asked prompted continues.handles spent continues.well).0 in
+  line_honestly number line more old mid new honest asked prompted continues le (inr (inl counted)) (inr (inr leaves)) = inl (count-more (trait.failure_count old.files) (trait.failure_count mid.files) (trait.failure_count new.files) le counted)
+  line_honestly number line more old mid new honest asked prompted continues le (inr (inr spent)) (inr (inr leaves)) =
+      let ending_is = (shown_spent trait prompts now number line old mid asked prompted continues.handles honest spent continues.well).0 in
       absurd (false≢true (sym (and-false (not continues.handles.quits)) ∙ (rw ending_is at continues.goes_on)))
 
   -- lines were run, and what is due after the following lines was left
@@ -193,18 +198,18 @@ module _ {F : Type 0} (trait : Ghosts F) (prompts : Bool) (now : ℕ) (final : R
   talk_honestly (line ∷ lines) number more old last new talked honest le rest =
       let mid = talked.1 in
       let handles = talked.3.handles in
-      line_honestly number line (lines ++ more) old mid new talked.0 talked.2 talked.3 (omega (arith, (talk_lasts trait prompts now (number + 1) lines mid last talked.4).1, le)) (line_comes trait prompts now number line old mid talked.0 talked.2 handles honest)
+      line_honestly number line (lines ++ more) old mid new honest talked.0 talked.2 talked.3 (omega (arith, (talk_lasts trait prompts now (number + 1) lines mid last talked.4).1, le)) (line_comes trait prompts now number line old mid talked.0 talked.2 handles honest)
       (talk_honestly lines (number + 1) more mid last new talked.4 ((handles_lasts trait prompts now number line old mid talked.0 talked.2 handles).0 honest) le (λ next is. rest next (omega (arith, is))))
 
   -- a line was the last
-  stop_honestly : (number : ℕ) (line : List ℕ) (more : List (List ℕ)) (last new : Talk F) (asked : ErrorWatch) (prompted : Prompts prompts (prompt_of last.state.awaiting) last.err asked)
+  stop_honestly : (number : ℕ) (line : List ℕ) (more : List (List ℕ)) (last new : Talk F) → trait.is_honest last.files → (asked : ErrorWatch) (prompted : Prompts prompts (prompt_of last.state.awaiting) last.err asked)
       (stops : Stops trait now number line (record last { err = asked }) new) → LineDue trait prompts now number line last new asked prompted stops.handles
       → LeavesDueUnlessFailed trait prompts (talk_due final now number (line ∷ more) last.state (trait.file last.files)) last new
-  stop_honestly number line more last new asked prompted stops is =
+  stop_honestly number line more last new honest asked prompted stops is =
       let came = due trait prompts now number line last new asked prompted stops.handles in
       elim stops.why [
         | inl ended ↦ unless_failed trait prompts _ last new new.out.failed refl (λ well.
-            let shown = shown_due trait prompts now number line last new asked prompted stops.handles is well in
+            let shown = shown_due trait prompts now number line last new asked prompted stops.handles honest is well in
             rw (sym shown.0 ∙ ended) (leaves_last trait prompts (run_of came.effect).out (line_report last.state.awaiting number came.effect) last new shown.1 (files_after (trait.file last.files) came.effect) is.1.1))
         | inr failed ↦ inr (inl failed)
       ]
@@ -237,7 +242,7 @@ module _ {F : Type 0} (trait : Ghosts F) (prompts : Bool) (now : ℕ) (given : O
         status = 0;
         prompted = prompted;
         printed = Appends-nil last.out.contents;
-        reported = record { details = details; reported = record { reports = ReportsEnd-nothing [] None details err' refl; status_is = refl }; untold = λ other. refl };
+        reported = record { details = details; reported = record { reports = ReportsEnd-nothing [] None details err' refl; status_is = refl }; untold = refl };
         worst = omega arith;
       })
 
@@ -255,7 +260,7 @@ module _ {F : Type 0} (trait : Ghosts F) (prompts : Bool) (now : ℕ) (given : O
         status = error_status (input_error fault);
         prompted = prompted;
         printed = Appends-nil last.out.contents;
-        reported = record { details = details; reported = reported; untold = λ other. untold };
+        reported = record { details = details; reported = reported; untold = untold };
         worst = worst;
       })
 
@@ -263,16 +268,17 @@ module _ {F : Type 0} (trait : Ghosts F) (prompts : Bool) (now : ℕ) (given : O
   pub honest_in_line : (line : List ℕ) (end : Talk F) (asked : ErrorWatch) → Prompts prompts (prompt_of last.state.awaiting) last.err asked → AreFirst (lines ++ line ∷ []) given
       → Stops trait now (length lines + 1) line (record last { err = asked }) end → trait.is_honest first.files → TalksHonestly trait prompts now given first end
   honest_in_line line end asked prompted first_lines stops honest =
+      let still = (talk_lasts trait prompts now 1 lines first last talked).0 honest in
       let number = length lines + 1 in
       let handles = stops.handles in
       let rest = lines_after given (lines ++ line ∷ []) first_lines in
       let all = subst (AreLines given) (append_assoc lines (line ∷ []) rest.0) rest.1 in
       let le = (handles_lasts trait prompts now number line last end asked prompted handles).1 in
-      elim (line_comes trait prompts now number line last end asked prompted handles ((talk_lasts trait prompts now 1 lines first last talked).0 honest)) [
-        | inl is ↦ leaves_after quiet_run (line ∷ rest.0) end (record { gives = inl (all, refl) }) le (stop_honestly trait prompts now quiet_run number line rest.0 last end asked prompted stops is) honest
+      elim (line_comes trait prompts now number line last end asked prompted handles still) [
+        | inl is ↦ leaves_after quiet_run (line ∷ rest.0) end (record { gives = inl (all, refl) }) le (stop_honestly trait prompts now quiet_run number line rest.0 last end still asked prompted stops is) honest
         | inr fails ↦ leaves_after (ends_by NoMemory) [] end (GivesLines-unread load.NoMemory (are_first given lines (line ∷ rest.0) all)) le (elim fails [
           | inl counted ↦ inl counted
           | inr spent ↦ unless_failed trait prompts _ last end end.out.failed refl (λ well. leaves_last trait prompts [] (final_report last.state.awaiting (ends_by NoMemory)) last end
-              (shown_spent trait prompts now number line last end asked prompted handles spent well).1 (trait.file last.files) spent.0)
+              (shown_spent trait prompts now number line last end asked prompted handles still spent well).1 (trait.file last.files) spent.0)
         ]) honest
       ]

@@ -12,7 +12,7 @@ use Rattle.krb_files.specs.Bytes.{Watch, Source, is_failed, ConsumesAtMost}
 use Rattle.krb_files.specs.Plan.{follow}
 use Rattle.krb_driver.specs.declared.command.RunEnd.{RunEnd}
 use Rattle.krb_driver.specs.declared.reporting.details.Details.{Details}
-use Rattle.krb_driver.specs.Commands.{Finishes, Keeps, Effect, Fails, Displays, Saves, about, files_after, is_save}
+use Rattle.krb_driver.specs.Commands.{Finishes, Keeps, Effect, Fails, Displays, Saves, about, files_after}
 use Rattle.krb_ktutil.specs.KtutilPlan.{KtutilState, plan_of, MakesLine, Spares}
 use Rattle.krb_ktutil.specs.InputLines.{CutsOff, lines_of}
 use Rattle.krb_files.specs.Loading.{most_bytes}
@@ -152,13 +152,12 @@ module _ {F : Type 0} (trait : Ghosts F) (now : ℕ) where
 
 -- ---- what is due after the lines of ktutil if the files are honest
 
--- a report: the prompt before it, an ending, the file that may be named, the line, and whether that ended with its save
+-- a report: the prompt before it, the file that may be named, the line, and its ending
 pub record DueReport : Type 0 where
   pub prompt : List ℕ
   pub file : List ℕ
   pub line : Option ℕ
   pub ending : Ending
-  pub saves : Bool
 
 -- what lines come to: the files after them, what is printed, and what is reported, in order
 pub record TalkDue : Type 0 where
@@ -167,8 +166,8 @@ pub record TalkDue : Type 0 where
   pub reported : List DueReport
 
 -- the report of a run of that line, which may name that file, after that prompt
-abbrev pub report_of : List ℕ → List ℕ → Option ℕ → Bool → Run → DueReport
-report_of prompt file line saves run = record { prompt = prompt; file = file; line = line; ending = run.ending; saves = saves }
+abbrev pub report_of : List ℕ → List ℕ → Option ℕ → Run → DueReport
+report_of prompt file line run = record { prompt = prompt; file = file; line = line; ending = run.ending }
 
 -- one run with that report, and no line after it
 abbrev pub last_due : List ℕ → DueReport → FileMap → TalkDue
@@ -185,7 +184,7 @@ final_prompt awaiting (Err error) = prompt_of awaiting
 
 -- the report after all lines
 abbrev pub final_report : Awaiting Awaited → Run → DueReport
-final_report awaiting run = report_of (final_prompt awaiting run.ending) [] None false run
+final_report awaiting run = report_of (final_prompt awaiting run.ending) [] None run
 
 -- what an effect prints, and how it ends, if no call fails
 abbrev pub run_of : Effect → Run
@@ -195,7 +194,7 @@ run_of (Saves file bytes out verdict) = record { out = out; ending = Ok verdict 
 
 -- the report of a line's effect after its prompt
 abbrev pub line_report : Awaiting Awaited → ℕ → Effect → DueReport
-line_report awaiting number effect = report_of (prompt_of awaiting) (about effect) (Some number) (is_save effect) (run_of effect)
+line_report awaiting number effect = report_of (prompt_of awaiting) (about effect) (Some number) (run_of effect)
 
 -- what is due after lines, run in order from that number up to one that is the last; `final` is due after all of them
 abbrev pub talk_due : Run → ℕ → ℕ → List (List ℕ) → KtutilState → FileMap → TalkDue
@@ -208,11 +207,11 @@ talk_due final now number (line ∷ lines) state files =
     then due_after run.out report (talk_due final now (number + 1) lines came.state (files_after files came.effect))
     else last_due run.out report (files_after files came.effect)
 
--- an ending was reported, with that status, its message whole unless the writer has failed; only a line that ended with its save reports what that left behind
+-- an ending was reported, with that status, its message whole unless the writer has failed; no save left anything behind
 pub record ReportsDue (due : DueReport) (old new : ErrorWatch) (status : ℕ) : Type 0 where
   pub details : Details
   pub reported : Reports due.file due.line details due.ending old new status
-  pub untold : IsFalse due.saves → details.aftermath ≡ None
+  pub untold : details.aftermath ≡ None
 
 -- these endings were reported in order, each after its prompt, and this is the worst of their statuses
 abbrev pub ReportsInTurn : Bool → ErrorWatch → ErrorWatch → List DueReport → ℕ → Type 0

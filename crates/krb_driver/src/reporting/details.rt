@@ -50,7 +50,8 @@ pub fn details_of<'a, F: Files, W: Write>(
     files: &'a F,
     out: &Watched<W>,
 ) -> Details<'a>
-    ensures { result.aftermath ≡ F.Files.aftermath files.now }
+    ensures left { result.aftermath ≡ F.Files.aftermath files.now }
+    ensures honest { F.Files.is_honest files.now → F.Files.aftermath files.now ≡ None }
 {
     Details {
         cause: cause_of(ending, files, out),
