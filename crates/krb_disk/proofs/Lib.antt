@@ -1,3 +1,4 @@
+pub mod Alone
 pub mod Moments
 pub mod Parts
 pub mod Pieces

@@ -4,7 +4,7 @@ use Rattle.std.proofs.lemmas.Option.{slice_get_past}
 use Rattle.krb_disk.specs.declared.stage.PlaceStage.{PlaceStage}
 use Rattle.krb_disk.specs.declared.stage.PlaceStage.TheVariants.{Untouched, Quiet, Same, Extended, Lengthened, Unlocked, Ready, Overwritten, Cut, Finished, Saved, Whole, Trimmed, Back, Left, Mixed, Torn, Refilled, Lacking, Cleared}
 use Rattle.krb_disk.specs.Content.{Content, IsPatch}
-use Rattle.krb_disk.specs.InPlace.{PlaceSave, PlaceCall, Sync, Finish, Restore, Event, Compare, Do, Fail, Intrude, PlaceMoment, shrinks, Turns, Makes, since, clears, Does, Leads, OneHas, IsLeft, HasOld, HasEnd, IsSafe}
+use Rattle.krb_disk.specs.InPlace.{PlaceSave, PlaceCall, Watch, Sync, Rewatch, Recompare, Finish, Restore, Event, Compare, Do, Fail, Intrude, PlaceMoment, shrinks, Turns, Makes, since, still_left, clears, Does, Leads, OneHas, IsLeft, HasOld, HasEnd, IsSafe}
 
 -- what the patch of a save is
 abbrev Fits : PlaceSave → Type 0
@@ -98,7 +98,17 @@ past : (save : PlaceSave) (cleared : Bool) (call : PlaceCall) (s t u : PlaceStag
     → (OneHas (b ∷ cs) i x → Was save cleared s i x) → Turns save call s t u → OneHas (since call b cs) i x → Was save (clears call cleared) t i x
 past save cleared Sync s t u b cs i x fits was turns has = absurd has
 past save cleared Finish s t u b cs i x fits was turns has = absurd has
+past save cleared Watch s t u b cs i x fits was turns has = let is = was (inr has) in grind (arith, slice_get_past)
+past save cleared Rewatch s t u b cs i x fits was turns has = let is = was (inr has) in grind (arith, slice_get_past)
+past save cleared Recompare s t u b cs i x fits was turns has = let is = was (inr has) in grind (arith, slice_get_past)
 past save cleared _ s t u b cs i x fits was turns has = let is = was has in grind (arith, slice_get_past)
+
+-- a call that failed adds at most the bytes that were there
+had : (call : PlaceCall) (b : Content) (cs : List Content) (i : ℕ) (x : Option ℕ) → OneHas (still_left call b cs) i x → OneHas (b ∷ cs) i x
+had Watch b cs i x has = inr has
+had Rewatch b cs i x has = inr has
+had Recompare b cs i x has = inr has
+had _ b cs i x has = has
 
 -- it is kept by each event
 event_holds : (save : PlaceSave) (event : Event) (m n : PlaceMoment) → Fits save → Holds save m → Does save event m n → Holds save n
@@ -110,7 +120,7 @@ event_holds save (Do call) m n fits h d = λ alone i.
 event_holds save (Fail call) m n fits h d = λ alone i.
     let k = h (sym d.alone ∙ alone) i in
     let new = failed save m.cleared call m.stage d.done n.stage i (m.bytes i) (n.bytes i) fits (k.0 (m.bytes i) (inl refl)) k.1 d.turns (d.makes i) in
-    rw d.earlier (rw d.cleared (λ x has. elim has [ inl is ↦ rw is new.0 | inr old ↦ still save m.cleared call m.stage d.done n.stage i x (k.0 x old) d.turns ], new.1))
+    rw d.earlier (rw d.cleared (λ x has. elim has [ inl is ↦ rw is new.0 | inr old ↦ still save m.cleared call m.stage d.done n.stage i x (k.0 x (had call m.bytes m.earlier i x old)) d.turns ], new.1))
 event_holds save Intrude m n fits h d = subst (λ (x : PlaceMoment). Holds save x) (sym d.now) (λ alone. absurd cc)
 
 -- so it holds at each moment

@@ -1,5 +1,5 @@
 -- The bytes of a file that is written in place.
-use Rattle.std.specs.Prelude.{◌≡◌, ◌≢◌, ℕ, ◌<◌, ◌≤◌, ◌-◌, Bool, true, false, List, length, slice_get, Option, None, Some}
+use Rattle.std.specs.Prelude.{◌≡◌, ◌≢◌, ℕ, ◌<◌, ◌≤◌, ◌-◌, ◌++◌, Bool, true, false, List, length, slice_get, Option, None, Some, IfSome}
 
 -- the byte at each place of a file, none past its end
 abbrev pub Content : Type 0
@@ -8,6 +8,14 @@ Content = ℕ → Option ℕ
 -- the file has these bytes
 abbrev pub Has : List ℕ → Content → Type 0
 Has bytes content = (i : ℕ) → content i ≡ slice_get bytes i
+
+-- a file was read that had such bytes left to read, if what it had is known
+abbrev pub WasRead : {F : Type 0} → (F → Option (List ℕ)) → (List ℕ → Type 0) → Type 0
+WasRead {F} remaining Holds = (file : F) × IfSome (remaining file) Holds
+
+-- these bytes, and others behind them or none
+abbrev pub Begins : List ℕ → List ℕ → Type 0
+Begins bytes all = (others : List ℕ) × (all ≡ bytes ++ others)
 
 -- what a write of the bytes of an image from one place to another does at a place: before and after
 pub record Writes (image : List ℕ) (from to i : ℕ) (before after : Option ℕ) : Type 0 where

@@ -1,5 +1,8 @@
 -- What a held file is.
-use Rattle.std.specs.Prelude.{◌≡◌, ℕ, Bool, false, List, Option, None, Some, Result, Ok, is_ok, string_bytes}
+use Rattle.std.specs.Prelude.{◌≡◌, ℕ, Bool, true, false, List, Option, None, Some, Result, Ok, Err, is_ok, string_bytes}
+use Rattle.std.specs.declared.fs.locks.TryLockError.{TryLockError}
+use Rattle.std.specs.declared.fs.locks.TryLockError.TheVariants as try_
+use Rattle.std.specs.declared.io.Error.{Error}
 use Rattle.std.specs.declared.clone.Clone as clone
 use Rattle.std.specs.declared.io.traits.Read as read
 use Rattle.std.specs.declared.io.traits.Seek as seek
@@ -24,6 +27,12 @@ module _ {R F D A : Type 0} {reads : read.Ghosts F} {writes : write.Ghosts F} {s
   abbrev pub IsHeldAs : {X : Type 0} → Option (List ℕ) → Option (Result (Held R F D A reads writes seeks lists clones) X) → Type 0
   IsHeldAs name (Some (Ok held)) = name ≡ Some (name_of held)
   IsHeldAs name hold = Unit {0}
+
+-- a lock was free if the call that tried it took it; no lock that another program has counts as taken
+abbrev pub was_free : Result (Unit {0}) TryLockError → Result Bool Error
+was_free (Ok done) = Ok true
+was_free (Err try_.WouldBlock) = Ok false
+was_free (Err (try_.Error error)) = Err error
 
 -- a file was to be held, and could be
 abbrev pub is_held : {H X : Type 0} → Option (Result H X) → Bool

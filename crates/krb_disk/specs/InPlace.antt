@@ -86,11 +86,18 @@ Makes save stage ClearRoom = Cuts (length save.old)
 Makes save stage CutBack = CutsIf (grows save) (length save.old)
 Makes save stage call = λ i before after. after ≡ before
 
--- the earlier bytes since the last sync, after a call
+-- the earlier bytes since the last sync, after a call that syncs nothing: a look changes none that a crash would leave
+abbrev pub still_left : PlaceCall → Content → List Content → List Content
+still_left Watch bytes earlier = earlier
+still_left Rewatch bytes earlier = earlier
+still_left Recompare bytes earlier = earlier
+still_left call bytes earlier = bytes ∷ earlier
+
+-- and after a call that did what it is to do
 abbrev pub since : PlaceCall → Content → List Content → List Content
 since Sync bytes earlier = []
 since Finish bytes earlier = []
-since call bytes earlier = bytes ∷ earlier
+since call bytes earlier = still_left call bytes earlier
 
 -- whether it was cut before its old bytes were back, after a call
 abbrev pub clears : PlaceCall → Bool → Bool
@@ -118,7 +125,7 @@ pub record Fails (save : PlaceSave) (call : PlaceCall) (m n : PlaceMoment) : Typ
   pub done : PlaceStage
   pub turns : Turns save call m.stage done n.stage
   pub makes : (i : ℕ) → (n.bytes i ≡ m.bytes i) ⊎ Makes save m.stage call i (m.bytes i) (n.bytes i)
-  pub earlier : n.earlier ≡ m.bytes ∷ m.earlier
+  pub earlier : n.earlier ≡ still_left call m.bytes m.earlier
   pub alone : n.alone ≡ m.alone
   pub cleared : n.cleared ≡ clears call m.cleared
 
@@ -170,3 +177,21 @@ abbrev pub EachMomentInPlaceIsSafe : Type 0
 EachMomentInPlaceIsSafe = (save : PlaceSave) (events : List Event) (now : PlaceMoment) (left : Content)
     → IsPatch save.old save.new save.first save.last
     → Leads save events now → now.alone ≡ true → IsLeft now left → IsSafe save now left
+
+-- no other program writes
+abbrev pub IsAlone : List Event → Type 0
+IsAlone [] = Unit {0}
+IsAlone (Intrude ∷ events) = ⊥
+IsAlone (event ∷ events) = IsAlone events
+
+-- the law is about runs of this program alone too: one writes over a byte, and is saved
+pub record SavesInPlace : Type 0 where
+  pub save : PlaceSave
+  pub events : List Event
+  pub now : PlaceMoment
+  pub patch : IsPatch save.old save.new save.first save.last
+  pub differs : save.first < save.last
+  pub alone : IsAlone events
+  pub leads : Leads save events now
+  pub is_alone : now.alone ≡ true
+  pub saved : now.stage ≡ Saved

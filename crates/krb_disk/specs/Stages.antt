@@ -1,5 +1,5 @@
 -- What is due at each stage of a save: of a new file, and in place.
-use Rattle.std.specs.Prelude.{◌≡◌, ℕ, Bool, true, false, List, ◌==◌, Option, None, Some, ◌⊎◌, nat_lt, if◌then◌else◌}
+use Rattle.std.specs.Prelude.{◌≡◌, ℕ, Bool, true, false, List, [], ◌++◌, ◌==◌, Option, None, Some, ◌⊎◌, nat_lt, if◌then◌else◌}
 use Rattle.krb_files.specs.declared.aftermath.Aftermath.{Aftermath}
 use Rattle.krb_files.specs.declared.aftermath.Aftermath.TheVariants.{Restored, Damaged, Mixed}
 use Rattle.krb_disk.specs.declared.calls.OldFile.{OldFile}
@@ -8,6 +8,7 @@ use Rattle.krb_disk.specs.declared.snapshot.Snapshot.{Snapshot}
 use Rattle.krb_disk.specs.declared.snapshot.Snapshot.TheVariants.{Nothing, File, Loaded}
 use Rattle.krb_disk.specs.declared.stage.Stage.{Stage}
 use Rattle.krb_disk.specs.declared.stage.Stage.TheVariants.{Locked, Agreed, Written, Examined, Permitted, Synced, Ours, Same, Quiet, Ended, Lost}
+use Rattle.krb_disk.specs.Content.{WasRead}
 use Rattle.krb_disk.specs.Looks.{IsPlainOrNone}
 use Rattle.krb_disk.specs.Mode.{IsNewMode}
 use Rattle.krb_disk.specs.declared.stage.PlaceStage.{PlaceStage}
@@ -67,6 +68,11 @@ abbrev pub IsLoaded : {A : Type 0} → Found → List ℕ → Snapshot A → Typ
 IsLoaded file bytes (Loaded found copy) = (found ≡ file) × (copy.items ≡ bytes)
 IsLoaded file bytes _ = ⊥
 
+-- the bytes that were loaded, if any were, were read once more, with these behind them
+abbrev pub WasReadAgain : {F A : Type 0} → (F → Option (List ℕ)) → Snapshot A → List ℕ → Type 0
+WasReadAgain remaining (Loaded found bytes) end = WasRead remaining (λ left. left ≡ bytes.items ++ end)
+WasReadAgain remaining _ end = Unit {0}
+
 -- the old file was found as it was seen
 abbrev pub IsSame : Stage → Type 0
 IsSame (Same old) = Unit {0}
@@ -89,6 +95,11 @@ watched_in_place true place.Lengthened = place.Unlocked
 watched_in_place false place.Lengthened = place.Lengthened
 watched_in_place true stage = place.Quiet
 watched_in_place false stage = place.Untouched
+
+-- what was added to it by then
+abbrev pub added : PlaceStage → List ℕ → List ℕ
+added place.Unlocked end = end
+added stage end = []
 
 -- no program had it locked just now
 abbrev pub IsWatched : PlaceStage → Type 0

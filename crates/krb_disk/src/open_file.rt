@@ -1,7 +1,8 @@
 //! What is asked of an open file: a descriptor, a lock, an owner that can be set, and writes in place.
 
-ghost use Rattle.std.specs.Prelude.{◌≤◌, length, OnOk, None};
+ghost use Rattle.std.specs.Prelude.{◌≡◌, ◌≤◌, length, OnOk, None};
 ghost use Rattle.krb_disk.specs.Content.{AtEach, Content, Cuts, Writes};
+ghost use Rattle.krb_disk.specs.Holding.{was_free};
 
 use crate::fault::DiskFault;
 use krb_files::Cause;
@@ -16,13 +17,20 @@ pub trait TakeLock {
     fn take_lock(&self) -> io::Result<bool>;
 }
 
+// Returns whether the lock was free, by the answer of the call that tried it.
+fn was_free(tried: Result<(), TryLockError>) -> io::Result<bool>
+    ensures { result ≡ was_free tried }
+{
+    match tried {
+        Ok(()) => Ok(true),
+        Err(TryLockError::WouldBlock) => Ok(false),
+        Err(TryLockError::Error(error)) => Err(error),
+    }
+}
+
 impl TakeLock for File {
     fn take_lock(&self) -> io::Result<bool> {
-        match self.try_lock() {
-            Ok(()) => Ok(true),
-            Err(TryLockError::WouldBlock) => Ok(false),
-            Err(TryLockError::Error(error)) => Err(error),
-        }
+        was_free(self.try_lock())
     }
 }
 

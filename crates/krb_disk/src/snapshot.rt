@@ -1,8 +1,9 @@
 //! A snapshot of a held file.
 
 ghost use Rattle.std.specs.Prelude.{◌≡◌, ◌++◌, ◌↔◌, IsTrue, IfOk, IfSome};
+ghost use Rattle.krb_disk.specs.Content.{WasRead};
 ghost use Rattle.krb_disk.specs.Looks.{IsPlain, IsPlainOrNone, IsUnchanged};
-ghost use Rattle.krb_disk.specs.Stages.{IsLoaded, snapshot_file};
+ghost use Rattle.krb_disk.specs.Stages.{IsLoaded, WasReadAgain, snapshot_file};
 
 use crate::fault::DiskFault;
 use crate::looks::{Found, Looks, Opened, is_unchanged};
@@ -47,7 +48,10 @@ fn leads_to<R: rt::Files>(
     path: &str,
     file: &Found,
     bytes: Parts<'_>,
-) -> io::Result<bool> {
+) -> io::Result<bool>
+    ensures { IfOk result (λ is. IsTrue is
+        → WasRead R.File.remaining (λ left. left ≡ bytes.entry.front.now ++ bytes.entry.end.now)) }
+{
     match looks.open(path)? {
         Some(mut opened) => has_content(&mut opened, file, bytes),
         None => Ok(false),
@@ -92,7 +96,8 @@ impl<A: Allocator> Snapshot<A> {
         path: &str,
         end: &[u8],
     ) -> Result<bool, DiskFault>
-        ensures { IfOk result (λ is. IsTrue is → IsPlainOrNone (snapshot_file self.now)) }
+        ensures plain { IfOk result (λ is. IsTrue is → IsPlainOrNone (snapshot_file self.now)) }
+        ensures bytes { IfOk result (λ is. IsTrue is → WasReadAgain R.File.remaining self.now end.now) }
     {
         match (self, looks.look(path)?) {
             (Snapshot::Nothing, None) => Ok(true),

@@ -2,8 +2,8 @@
 
 ghost use Rattle.std.specs.Prelude.{◌≡◌};
 ghost use Rattle.krb_disk.specs.Stages.{stood, compared, watched, synced, IsFound};
-ghost use Rattle.krb_disk.specs.Disk.{EachMomentIsSafe};
-ghost use Rattle.krb_disk.specs.InPlace.{EachMomentInPlaceIsSafe};
+ghost use Rattle.krb_disk.specs.Disk.{EachMomentIsSafe, Saves};
+ghost use Rattle.krb_disk.specs.InPlace.{EachMomentInPlaceIsSafe, SavesInPlace};
 
 use crate::looks::Found;
 
@@ -131,11 +131,13 @@ pub enum PlaceStage {
 /// has the whole new file with the mode due, or what other programs put there. The last call of a save before its rename
 /// compares the old file, after the look at its locks.
 pub fn each_moment_is_safe()
-    ensures { EachMomentIsSafe }
+    ensures safe { EachMomentIsSafe }
+    ensures some { Saves }
 {}
 
 /// After any number of the calls of a save in place, of which any may fail, and a crash, each old byte is there, or the
 /// new end of the file is. A save that is done left the new bytes, and one whose restoring is done the old ones.
 pub fn each_moment_in_place_is_safe()
-    ensures { EachMomentInPlaceIsSafe }
+    ensures safe { EachMomentInPlaceIsSafe }
+    ensures some { SavesInPlace }
 {}

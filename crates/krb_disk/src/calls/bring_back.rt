@@ -1,7 +1,7 @@
 //! The calls that bring the old bytes back after a save in place failed.
 
-ghost use Rattle.std.specs.Prelude.{◌≡◌, ◌⊎◌, ◌↔◌, true, length, nat_lt, IsTrue, OnOk, OnErr};
-ghost use Rattle.krb_disk.specs.Content.{AtEach, Cuts, CutsIf, IsPatch, Writes};
+ghost use Rattle.std.specs.Prelude.{◌≡◌, ◌⊎◌, ◌↔◌, true, length, nat_lt, IfOk, IsTrue, OnOk, OnErr};
+ghost use Rattle.krb_disk.specs.Content.{AtEach, Begins, Cuts, CutsIf, IsPatch, WasRead, Writes};
 ghost use Rattle.krb_disk.specs.Stages.{IsToRestore, recovered, torn_to, unrestored};
 ghost use Rattle.krb_disk.specs.declared.stage.PlaceStage.TheVariants.{Lengthened, Whole, Mixed, Torn, Refilled, Lacking, Cleared, Trimmed, Left, Lost};
 
@@ -60,7 +60,9 @@ fn has_own_end<F: OpenFile + Read + Seek>(file: &mut F, patch: Patch<'_>) -> io:
 }
 
 // Returns whether an open file has the old bytes, and then a front of the new end.
-fn has_old<F: OpenFile + Read + Seek>(file: &mut F, patch: Patch<'_>) -> io::Result<bool> {
+fn has_old<F: OpenFile + Read + Seek>(file: &mut F, patch: Patch<'_>) -> io::Result<bool>
+    ensures { IfOk result (λ has. IsTrue has → WasRead F.remaining (Begins patch.entry.before.now)) }
+{
     let Some(end) = end_within(file, patch)? else {
         return Ok(false);
     };
@@ -80,7 +82,8 @@ impl<R: rt::Files> Calls<'_, R> {
     /// Returns whether each old byte is there, though they were not written back: none was written over.
     pub fn recover(&self, old: &mut PlaceFile<R::File>, patch: Patch<'_>) -> bool
         requires due { old.old.stage ≡ Lacking }
-        ensures { old.new.stage ≡ recovered result }
+        ensures stage { old.new.stage ≡ recovered result }
+        ensures read { IsTrue result → WasRead R.File.remaining (Begins patch.entry.before.now) }
     {
         let has_old = matches!(has_old(&mut old.file, patch), Ok(true));
         if has_old {

@@ -1,9 +1,9 @@
 //! The calls of a save in place.
 
-ghost use Rattle.std.specs.Prelude.{◌≡◌, ◌≤◌, ◌⊎◌, ◌∷◌, false, length, nat_lt, IfOk, OnOk, OnErr, Some, string_bytes};
+ghost use Rattle.std.specs.Prelude.{◌≡◌, ◌≤◌, ◌⊎◌, ◌∷◌, false, length, nat_lt, IfOk, IsTrue, OnOk, OnErr, Some, string_bytes};
 ghost use Rattle.krb_disk.specs.Aftermaths.{IsDone};
 ghost use Rattle.krb_disk.specs.Content.{AtEach, CutsIf, IsPatch, Writes};
-ghost use Rattle.krb_disk.specs.Stages.{IsToSync, IsToWatch, IsWatched, compared_in_place, synced_in_place, unlooked, unsynced, watched_in_place};
+ghost use Rattle.krb_disk.specs.Stages.{IsToSync, IsToWatch, IsWatched, WasReadAgain, added, compared_in_place, synced_in_place, unlooked, unsynced, watched_in_place};
 ghost use Rattle.krb_disk.specs.declared.stage.PlaceStage.TheVariants.{Same, Extended, Ready, Overwritten, Cut, Finished, Saved, Whole, Mixed, Torn};
 
 use super::log::Log;
@@ -57,6 +57,8 @@ impl<R: rt::Files> Calls<'_, R> {
         requires due { IsWatched old.old.stage }
         ensures stage { IfOk result (λ is. old.new ≡ record old.old { stage = compared_in_place is old.old.stage }) }
         ensures err { OnErr result (old.new ≡ record old.old { stage = compared_in_place false old.old.stage }) }
+        ensures bytes { IfOk result (λ is. IsTrue is
+            → WasReadAgain R.File.remaining snapshot.now (added old.old.stage end.now)) }
     {
         let was_lengthened = old.stage == PlaceStage::Unlocked;
         old.stage = if was_lengthened {

@@ -1,10 +1,10 @@
 //! The calls on the old file, and the rename that completes a save.
 
-ghost use Rattle.std.specs.Prelude.{◌≡◌, ◌∷◌, IfOk, OnOk, OnErr, IsTrue, string_bytes};
+ghost use Rattle.std.specs.Prelude.{◌≡◌, [], ◌∷◌, IfOk, OnOk, OnErr, IsTrue, string_bytes};
 ghost use Rattle.std.specs.Path.{path_buf_bytes};
 ghost use Rattle.krb_disk.specs.Looks.{IsPlainOrNone};
 ghost use Rattle.krb_disk.specs.NewFile.{IsFilled, new_path};
-ghost use Rattle.krb_disk.specs.Stages.{IsReady, watched, snapshot_file};
+ghost use Rattle.krb_disk.specs.Stages.{IsReady, WasReadAgain, watched, snapshot_file};
 ghost use Rattle.krb_disk.specs.declared.stage.Stage.TheVariants.{Ours, Same};
 
 use super::log::Log;
@@ -47,6 +47,7 @@ impl<R: rt::Files + Alloc> Calls<'_, R> {
         ensures same { IfOk result (λ is. IsTrue is
             → file.new ≡ record file.old { stage = Same (snapshot_file snapshot.now) }) }
         ensures plain { IfOk result (λ is. IsTrue is → IsPlainOrNone (snapshot_file snapshot.now)) }
+        ensures bytes { IfOk result (λ is. IsTrue is → WasReadAgain R.File.remaining snapshot.now []) }
     {
         let is_same = snapshot.is_at(&self.looks, path, &[])?;
         file.stage = if is_same {

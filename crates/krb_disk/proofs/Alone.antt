@@ -1,0 +1,187 @@
+-- A save of each kind, by this program alone.
+use Rattle.std.proofs.Common.{◌≡◌, ◌≢◌, ℕ, ◌≤◌, Bool, true, false, List, [], ◌∷◌, length, slice_get, Option, None, Some, if◌then◌else◌, codes, arith, refl, sym, ◌∙◌}
+use Rattle.std.specs.Prelude.{bytes_eq}
+use Rattle.std.proofs.lemmas.Bool.{cond_both}
+use Rattle.std.proofs.lemmas.Option.{slice_get_past}
+use Rattle.std.proofs.lemmas.Slice.Eq.{bytes_eq-Decides}
+use Rattle.krb_disk.specs.declared.stage.PlaceStage.{PlaceStage}
+use Rattle.krb_disk.specs.declared.stage.PlaceStage.TheVariants as place
+use Rattle.krb_disk.specs.declared.stage.Stage.{Stage}
+use Rattle.krb_disk.specs.declared.stage.Stage.TheVariants.{Made, Locked, Agreed, Held, Written, Permitted, Synced, Quiet, Ours, Same, Lost}
+use Rattle.krb_disk.specs.Content.{Content, IsPatch}
+use Rattle.krb_disk.specs.InPlace.{PlaceSave, PlaceCall, PlaceMoment, Compare, Do, Watch, Pass, Overwrite, Shorten, Finish, Confirm, SavesInPlace, Turns, Makes, Works, since, clears}
+use Rattle.krb_disk.specs.Disk as disk
+use Rattle.krb_disk.specs.NewFile.{new_path}
+use Rattle.krb_disk.specs.Stages.{private_mode}
+
+-- ---- in place
+
+-- one byte in place of another
+abbrev byte : PlaceSave
+byte = record { old = 0 ∷ []; new = 1 ∷ []; first = 0; last = 1 }
+
+past_both : (i : ℕ) → 1 ≤ i → slice_get {X = ℕ} (1 ∷ []) i ≡ slice_get {X = ℕ} (0 ∷ []) i
+past_both i past = slice_get_past {X = ℕ} (1 ∷ []) i past ∙ sym (slice_get_past {X = ℕ} (0 ∷ []) i past)
+
+patch : IsPatch (0 ∷ []) (1 ∷ []) 0 1
+patch = record {
+  order = omega arith;
+  in_old = omega arith;
+  in_new = omega arith;
+  front = λ i before. absurd (omega (arith, before));
+  back = λ i past in_old in_new. absurd (omega (arith, past, in_old));
+  begins = λ is same. cc;
+  ends = λ is same. cc;
+}
+
+abbrev content : ℕ → Content
+content b i = slice_get (b ∷ []) i
+
+-- a moment at which the file has that byte
+abbrev moment : PlaceStage → ℕ → List Content → Bool → PlaceMoment
+moment stage b earlier alone = record { stage = stage; bytes = content b; earlier = earlier; alone = alone; cleared = false }
+
+-- a call that does what it is to do
+works : (call : PlaceCall) (m n : PlaceMoment) (u : PlaceStage) → Turns byte call m.stage n.stage u → ((i : ℕ) → Makes byte m.stage call i (m.bytes i) (n.bytes i))
+    → n.earlier ≡ since call m.bytes m.earlier → n.alone ≡ m.alone → n.cleared ≡ clears call m.cleared → Works byte call m n
+works call m n u turns makes earlier alone cleared = record { failed = u; turns = turns; makes = makes; earlier = earlier; alone = alone; cleared = cleared }
+
+pub saves_in_place : SavesInPlace
+saves_in_place =
+    let start = moment place.Untouched 0 [] false in
+    let quiet = moment place.Quiet 0 [] false in
+    let same = moment place.Same 0 [] true in
+    let ready = moment place.Ready 0 (content 0 ∷ []) true in
+    let written = moment place.Overwritten 1 (content 0 ∷ (content 0 ∷ [])) true in
+    let cut = moment place.Cut 1 (content 1 ∷ (content 0 ∷ (content 0 ∷ []))) true in
+    let finished = moment place.Finished 1 [] true in
+    let saved = moment place.Saved 1 (content 1 ∷ []) true in
+    let watches = works Watch start quiet place.Untouched (refl, refl, refl) (λ i. refl) refl refl refl in
+    let passes = works Pass same ready place.Same (refl, refl, refl, refl) (λ i. refl) refl refl refl in
+    let writes = works Overwrite ready written place.Mixed (refl, refl, refl) (λ i. record { within = λ past before. refl; front = λ before. absurd (omega (arith, before)); back = past_both i }) refl refl refl in
+    let cuts = works Shorten written cut place.Torn (refl, refl, refl) (λ i. refl) refl refl refl in
+    let finishes = works Finish cut finished place.Torn (refl, refl, refl) (λ i. refl) refl refl refl in
+    let confirms = works Confirm finished saved place.Finished (refl, refl, refl) (λ i. refl) refl refl refl in
+    record {
+      save = byte;
+      events = Do Confirm ∷ (Do Finish ∷ (Do Shorten ∷ (Do Overwrite ∷ (Do Pass ∷ (Compare ∷ (Do Watch ∷ []))))));
+      now = saved;
+      patch = patch;
+      differs = omega arith;
+      alone = tt;
+      leads = (finished, ((cut, ((written, ((ready, ((same, ((quiet, ((start, ((refl, refl), watches)), record { due = refl; has = λ i. refl; synced = refl; now = refl })), passes)), writes)), cuts)), finishes)), confirms));
+      is_alone = refl;
+      saved = refl;
+    }
+
+-- ---- a new file
+
+-- the file `f` is made where there is none
+abbrev made : disk.Save
+made = record { path = codes "f"; bytes = []; old = None; is_snapshot = λ file. true }
+
+-- that file under a path, and no other
+abbrev only : List ℕ → Option disk.File → disk.Names
+only path file name = if bytes_eq name path then file else None
+
+-- elsewhere there is none
+elsewhere : (path name : List ℕ) (file : Option disk.File) → name ≢ path → only path file name ≡ None
+elsewhere path name file other = cond_both (bytes_eq name path) file None (λ (f : Option disk.File). f ≡ None) (λ is. absurd (other ((bytes_eq-Decides name path).0 is))) (λ is. refl)
+
+-- nowhere
+nowhere : (path name : List ℕ) → only path None name ≡ None
+nowhere path name = cond_both (bytes_eq name path) None None (λ (f : Option disk.File). f ≡ None) (λ is. refl) (λ is. refl)
+
+abbrev at : Stage → disk.Names → Bool → Bool → disk.Moment
+at stage names saved fresh = record { stage = stage; names = names; theirs = λ name. None; saved = saved; fresh = fresh }
+
+abbrev beside : Stage → Option disk.File → disk.Moment
+beside stage file = at stage (only (codes "f.krbfile") file) false false
+
+abbrev file : Bool → Option disk.File
+file durable = Some (record { bytes = []; mode = private_mode; durable = durable })
+
+asks : (call : disk.Call) (s t : Stage) (old new : Option disk.File) → disk.Turns made call s old t new → disk.Asks made call (beside s old) (beside t new)
+asks call s t old new turns = record {
+  turns = turns;
+  others = λ name other. elsewhere (codes "f.krbfile") name new other ∙ sym (elsewhere (codes "f.krbfile") name old other);
+  theirs = refl;
+  saved = refl;
+  fresh = refl;
+}
+
+pub saves : disk.Saves
+saves =
+    let none = beside Lost None in
+    let compared = at (Same None) (only (codes "f.krbfile") (file true)) false true in
+    record {
+      save = made;
+      calls = disk.Rename ∷ (disk.Compare ∷ (disk.AtPath ∷ (disk.Watch true ∷ (disk.Sync ∷ (disk.Permit private_mode ∷ (disk.Write ∷ (disk.Double ∷ (disk.AtPath ∷ (disk.Lock ∷ (disk.Make ∷ []))))))))));
+      now = at Lost (only (codes "f") (file true)) true false;
+      alone = refl;
+      happens = (
+        compared,
+        (
+          (
+            beside (Ours None) (file true),
+            (
+              (
+                beside (Quiet None) (file true),
+                (
+                  (
+                    beside (Synced None) (file true),
+                    (
+                      (
+                        beside (Permitted None) (file false),
+                        (
+                          (
+                            beside Written (file false),
+                            (
+                              (
+                                beside Held (file false),
+                                (
+                                  (
+                                    beside Agreed (file false),
+                                    (
+                                      (
+                                        beside Locked (file false),
+                                        (
+                                          (
+                                            beside Made (file false),
+                                            (
+                                              (
+                                                none,
+                                                (record { stage = refl; names = nowhere (codes "f.krbfile"); saved = refl; fresh = refl }, asks disk.Make Lost Made None (file false) (refl, refl, refl)),
+                                              ),
+                                              asks disk.Lock Made Locked (file false) (file false) (refl, refl, refl),
+                                            ),
+                                          ),
+                                          asks disk.AtPath Locked Agreed (file false) (file false) (refl, refl),
+                                        ),
+                                      ),
+                                      asks disk.Double Agreed Held (file false) (file false) (refl, refl, refl),
+                                    ),
+                                  ),
+                                  asks disk.Write Held Written (file false) (file false) (refl, refl, refl),
+                                ),
+                              ),
+                              asks (disk.Permit private_mode) Written (Permitted None) (file false) (file false) (refl, refl, refl),
+                            ),
+                          ),
+                          asks disk.Sync (Permitted None) (Synced None) (file false) (file true) (refl, refl),
+                        ),
+                      ),
+                      asks (disk.Watch true) (Synced None) (Quiet None) (file true) (file true) (refl, refl),
+                    ),
+                  ),
+                  asks disk.AtPath (Quiet None) (Ours None) (file true) (file true) (refl, refl),
+                ),
+              ),
+              record { due = refl; snapshot = refl; now = refl },
+            ),
+          ),
+          record { due = tt; named = refl; others = λ name p q. elsewhere (codes "f") name (file true) p ∙ sym (elsewhere (codes "f.krbfile") name (file true) q); now = refl },
+        ),
+      );
+      saved = refl;
+    }
