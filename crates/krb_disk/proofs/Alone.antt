@@ -110,78 +110,34 @@ asks call s t old new turns = record {
   fresh = refl;
 }
 
+-- a call after others
+next : (call : disk.Call) (calls : List disk.Call) (m n : disk.Moment) → disk.Happens made calls m → disk.Does made call m n → disk.Happens made (call ∷ calls) n
+next call calls m n happens does = (m, (happens, does))
+
 pub saves : disk.Saves
 saves =
-    let none = beside Lost None in
-    let compared = at (Same None) (only (codes "f.krbfile") (file true)) false true in
+    let new = file false in
+    let synced = file true in
+    let calls = disk.Lock ∷ (disk.Make ∷ []) in
+    let written = disk.Permit private_mode ∷ (disk.Write ∷ (disk.Double ∷ (disk.AtPath ∷ calls))) in
+    let watched = disk.Watch true ∷ (disk.Sync ∷ written) in
+    let compared = at (Same None) (only (codes "f.krbfile") synced) false true in
+    let done = at Lost (only (codes "f") synced) true false in
+    let m = next disk.Make [] (beside Lost None) (beside Made new) (record { stage = refl; names = nowhere (codes "f.krbfile"); saved = refl; fresh = refl }) (asks disk.Make Lost Made None new (refl, refl, refl)) in
+    let l = next disk.Lock (disk.Make ∷ []) (beside Made new) (beside Locked new) m (asks disk.Lock Made Locked new new (refl, refl, refl)) in
+    let a = next disk.AtPath calls (beside Locked new) (beside Agreed new) l (asks disk.AtPath Locked Agreed new new (refl, refl)) in
+    let d = next disk.Double (disk.AtPath ∷ calls) (beside Agreed new) (beside Held new) a (asks disk.Double Agreed Held new new (refl, refl, refl)) in
+    let w = next disk.Write (disk.Double ∷ (disk.AtPath ∷ calls)) (beside Held new) (beside Written new) d (asks disk.Write Held Written new new (refl, refl, refl)) in
+    let p = next (disk.Permit private_mode) (disk.Write ∷ (disk.Double ∷ (disk.AtPath ∷ calls))) (beside Written new) (beside (Permitted None) new) w (asks (disk.Permit private_mode) Written (Permitted None) new new (refl, refl, refl)) in
+    let s = next disk.Sync written (beside (Permitted None) new) (beside (Synced None) synced) p (asks disk.Sync (Permitted None) (Synced None) new synced (refl, refl)) in
+    let q = next (disk.Watch true) (disk.Sync ∷ written) (beside (Synced None) synced) (beside (Quiet None) synced) s (asks (disk.Watch true) (Synced None) (Quiet None) synced synced (refl, refl)) in
+    let o = next disk.AtPath watched (beside (Quiet None) synced) (beside (Ours None) synced) q (asks disk.AtPath (Quiet None) (Ours None) synced synced (refl, refl)) in
+    let c = next disk.Compare (disk.AtPath ∷ watched) (beside (Ours None) synced) compared o (record { due = refl; snapshot = refl; now = refl }) in
     record {
       save = made;
-      calls = disk.Rename ∷ (disk.Compare ∷ (disk.AtPath ∷ (disk.Watch true ∷ (disk.Sync ∷ (disk.Permit private_mode ∷ (disk.Write ∷ (disk.Double ∷ (disk.AtPath ∷ (disk.Lock ∷ (disk.Make ∷ []))))))))));
-      now = at Lost (only (codes "f") (file true)) true false;
+      calls = disk.Rename ∷ (disk.Compare ∷ (disk.AtPath ∷ watched));
+      now = done;
       alone = refl;
-      happens = (
-        compared,
-        (
-          (
-            beside (Ours None) (file true),
-            (
-              (
-                beside (Quiet None) (file true),
-                (
-                  (
-                    beside (Synced None) (file true),
-                    (
-                      (
-                        beside (Permitted None) (file false),
-                        (
-                          (
-                            beside Written (file false),
-                            (
-                              (
-                                beside Held (file false),
-                                (
-                                  (
-                                    beside Agreed (file false),
-                                    (
-                                      (
-                                        beside Locked (file false),
-                                        (
-                                          (
-                                            beside Made (file false),
-                                            (
-                                              (
-                                                none,
-                                                (record { stage = refl; names = nowhere (codes "f.krbfile"); saved = refl; fresh = refl }, asks disk.Make Lost Made None (file false) (refl, refl, refl)),
-                                              ),
-                                              asks disk.Lock Made Locked (file false) (file false) (refl, refl, refl),
-                                            ),
-                                          ),
-                                          asks disk.AtPath Locked Agreed (file false) (file false) (refl, refl),
-                                        ),
-                                      ),
-                                      asks disk.Double Agreed Held (file false) (file false) (refl, refl, refl),
-                                    ),
-                                  ),
-                                  asks disk.Write Held Written (file false) (file false) (refl, refl, refl),
-                                ),
-                              ),
-                              asks (disk.Permit private_mode) Written (Permitted None) (file false) (file false) (refl, refl, refl),
-                            ),
-                          ),
-                          asks disk.Sync (Permitted None) (Synced None) (file false) (file true) (refl, refl),
-                        ),
-                      ),
-                      asks (disk.Watch true) (Synced None) (Quiet None) (file true) (file true) (refl, refl),
-                    ),
-                  ),
-                  asks disk.AtPath (Quiet None) (Ours None) (file true) (file true) (refl, refl),
-                ),
-              ),
-              record { due = refl; snapshot = refl; now = refl },
-            ),
-          ),
-          record { due = tt; named = refl; others = λ name p q. elsewhere (codes "f") name (file true) p ∙ sym (elsewhere (codes "f.krbfile") name (file true) q); now = refl },
-        ),
-      );
+      happens = next disk.Rename (disk.Compare ∷ (disk.AtPath ∷ watched)) compared done c (record { due = tt; named = refl; others = λ name p q. elsewhere (codes "f") name synced p ∙ sym (elsewhere (codes "f.krbfile") name synced q); now = refl });
       saved = refl;
     }
