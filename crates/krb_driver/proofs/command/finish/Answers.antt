@@ -10,5 +10,6 @@ returns-clause-finishes g c = record {
   shown = c.show_ready-ending.ensures;
   details = c.details_to_report-details.result;
   reported = rw (c.as_bytes.ensures.value ∙ c.about-named.ensures g.S.Show.page) at c.report-status.ensures;
-  left_behind = rw c.details_of-details.ensures at (c.details_to_report-details.ensures (made_effect g.S.Show.page c.args.file.now c.args.made) (c.is_save-saves.ensures g.S.Show.page c.args.file.now));
+  left_behind = rw c.details_of-details.ensures.left at (c.details_to_report-details.ensures (made_effect g.S.Show.page c.args.file.now c.args.made) (c.is_save-saves.ensures g.S.Show.page c.args.file.now));
+  honest = c.details_of-details.ensures.honest;
 }
