@@ -5,8 +5,8 @@ from dataclasses import replace
 
 from keytabs.file_names import LIMIT, sized
 from makers.images import HOST, Entry, hole, keytab, number, record
-from runs.harness import Case, Outcome, over, run_case, words_of
-from runs.undisturbed import PROGRAM, frame
+from runs.harness import Case, Outcome, over, words_of
+from runs.undisturbed import frame, run_alone
 
 LEAST = Entry((b"",), b"", 1, 0, 0, 0, b"", 0)  # the smallest with a component: 23 bytes with its 32-bit version
 LEAST_RECORD = record(LEAST.spelled())
@@ -19,7 +19,7 @@ PLACES = range(2, 2 + SIZE * COUNT, SIZE)
 def with_room(name: str, line: str, given: bytes = b"", status: int = 0, **files: bytes) -> Case:
     """Returns a run as it ends where there is room: with that status, and no message."""
     case = Case(f"{line}: {name}", words_of(line), Outcome(status), files, stdin=given)
-    got, after = run_case(PROGRAM[0], case)
+    got, after = run_alone(case)
     return replace(case, wanted=Outcome(status, got.out), files_after=after)
 
 

@@ -1,5 +1,5 @@
 """Runs that nothing disturbs. A test that disturbs a run compares it with the same run undisturbed; what such runs
-print and save is compared with the definitions by `computed`."""
+print and save is compared with the definitions by `computed`. None of them may be out of memory."""
 
 import atexit
 import os
@@ -9,16 +9,34 @@ import tempfile
 from dataclasses import dataclass, field, replace
 from functools import cache, cached_property
 
-from runs.harness import EXPLAIN, Case, Line, Outcome, mode_of_files, run_case, shown, words_of
+from runs.harness import EXPLAIN, Case, Line, Outcome, Report, mode_of_files, run_case, shown, words_of
 
 IN_PLACE = "--in-place"
 PROGRAM: list[str] = []  # the program that is tested, once `use` has named it
 SEEN: list[Case] = []  # its runs
+SPENT: list[str] = []  # those that were out of memory
 
 
 def use(program: str) -> None:
     """Names the program that is tested."""
     PROGRAM[:] = [program]
+
+
+def run_alone(case: Case, **options: object) -> tuple[Outcome, dict[str, bytes]]:
+    """Runs a case that nothing disturbs, and returns its outcome and the files afterwards."""
+    outcome, after = run_case(PROGRAM[0], case, **options)
+    if outcome.status == 4 or b"out of memory" in outcome.err:
+        SPENT.append(case.name)
+    return outcome, after
+
+
+def hand_over(report: Report) -> None:
+    """Gives a report the runs that were made since the last time."""
+    report.seen += SEEN
+    for name in SPENT:
+        report.check(f"nothing disturbs {name}", ["it is out of memory"])
+    SEEN.clear()
+    SPENT.clear()
 
 
 @cache
@@ -50,7 +68,7 @@ class Undisturbed:
         case = Case(self.name, self.plain or self.words, Outcome(0), self.files, stdin=self.stdin)
         library = None if self.clock is None else preload_library()
         options = {"env": {"LD_PRELOAD": library, "CLOCK": str(self.clock)}} if library else {}
-        outcome, after = run_case(PROGRAM[0], case, **options)
+        outcome, after = run_alone(case, **options)
         clock = self.clock if library else None
         SEEN.append(replace(case, wanted=outcome, files_after=after, clock=clock, mode=mode_of_files()))
         return outcome, after
