@@ -16,6 +16,7 @@
  *   FAIL_CLOCK=N         the Nth reading of the clock fails, and each after it
  *   PACE=N               a sleep ends at once; the monotonic clock advances by its length, and by N milliseconds with
  *                        each reading; if N is 0 it cannot be read
+ *   OPENING=N            it advances by N milliseconds with each open to write
  *   PROC=FOLDER          an open of the list of locks, of the list of mounts, or of the description of an open file opens
  *                        `locks`, `mountinfo` or `fdinfo` in that folder, and the Nth one of the list of locks `N`, if
  *                        that is there; and each file has the number 0 on the device 0:0
@@ -49,7 +50,7 @@ static struct calls {
     uint64_t made, fail, take_none;
 } requests, inputs, reads, writes, saves;
 
-static uint64_t refuse_lasts, error, most, clock_seconds, clock_readings, fail_clock, pace;
+static uint64_t refuse_lasts, error, most, clock_seconds, clock_readings, fail_clock, pace, opening;
 static int is_paced;
 static char *proc;
 
@@ -199,6 +200,7 @@ int open(const char *path, int flags, ...) {
     va_start(more, flags);
     mode_t mode = flags & O_CREAT ? va_arg(more, mode_t) : 0;
     va_end(more);
+    counts->passed += (flags & O_ACCMODE) == O_RDONLY ? 0 : opening;
     return (int)syscall(SYS_openat, AT_FDCWD, file_for(path, other), flags, mode);
 }
 
@@ -237,7 +239,7 @@ static const struct {
     {"REFUSE", &requests.fail}, {"REFUSE_LASTS", &refuse_lasts}, {"FAIL_INPUT", &inputs.fail},
     {"FAIL_READ", &reads.fail}, {"FAIL_WRITE", &writes.fail}, {"ZERO_WRITE", &writes.take_none},
     {"FAIL_SAVE", &saves.fail}, {"ZERO_SAVE", &saves.take_none}, {"ERROR", &error}, {"MOST", &most},
-    {"CLOCK", &clock_seconds}, {"FAIL_CLOCK", &fail_clock},
+    {"CLOCK", &clock_seconds}, {"FAIL_CLOCK", &fail_clock}, {"OPENING", &opening},
 };
 
 typedef int main_function(int, char **, char **);

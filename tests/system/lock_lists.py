@@ -62,7 +62,7 @@ ENDS = (
 
 
 def seen(under: Preloaded, lists: dict[str, bytes | None], pace: int = 0, is_taken: bool = False,
-         one: Run = ADDING) -> Counted:
+         one: Run = ADDING, opening: int = 0) -> Counted:
     """Makes a run to which the system shows those lists, and by whose clock time passes in that way."""
     lists = {"locks": b"", "fdinfo": OPEN_FILE, "mountinfo": MOUNTS, **lists}
     there = {name: data for name, data in lists.items() if data is not ENDLESS}
@@ -71,7 +71,7 @@ def seen(under: Preloaded, lists: dict[str, bytes | None], pace: int = 0, is_tak
             os.symlink("/dev/zero", os.path.join(proc, name))
         if is_taken:
             os.mkdir(os.path.join(folder, "k.krbfile"))
-        return under.run_in(folder, one, PROC=proc, PACE=pace)
+        return under.run_in(folder, one, PROC=proc, PACE=pace, OPENING=opening)
 
 
 def faults_of_save(got: Counted, is_waited: bool, case: Run = ADD) -> list[str]:
@@ -113,10 +113,14 @@ def check_ends(report: Report, under: Preloaded) -> None:
 
 
 def check_two_waits(report: Report, under: Preloaded) -> None:
-    """Checks that the wait before a save has its own ten seconds: there and before the load the readings take six."""
+    """Checks that the wait before a save has its own ten seconds: there and before the load the readings take six. One
+    that is over before its first look still looks once."""
     got = seen(under, {"locks": NO_LOCK}, pace=600)
     faults = [] if got.passed > WAITS["in use"] else [f"it took {got.passed} ms"]
     report.check("two long waits", faults + faults_of_save(got, False))
+    for case in (ADD, in_place(EQUAL)):
+        over = seen(under, {}, 1, one=case, opening=WAITS["in use"])
+        report.check(f"an open takes as long as a wait: {case.name}", faults_of_save(over, False, case))
 
 
 def check(report: Report, program: str) -> None:
