@@ -123,7 +123,7 @@ def check_hard_links(report: Report, program: str) -> None:
 def check_removed(report: Report, program: str) -> None:
     """Checks that an open file that has lost its name is not saved, and that one with another name is."""
     cases = [
-        ("rm d", {}, UNSAVED), ("rm d; echo >'d (deleted)'", {"d (deleted)": b"\n"}, UNSAVED),
+        ("rm d", {}, UNSAVED), ("cp d 'd (deleted)'; rm d", {"d (deleted)": OLD}, UNSAVED),
         ("rm d; echo >d", {"d": b"\n"}, UNSAVED), (":", {"d": NEW}, SAVED), ("mv d e", {"e": NEW}, SAVED),
         ("mv d 'd (deleted)'", {"d (deleted)": NEW}, SAVED),
     ]

@@ -13,9 +13,11 @@ from keytabs.file_names import LIMIT
 from keytabs.ktutil_lines import KEY
 from makers.images import B, TWO, USUAL, keytab
 from runs.harness import Report, folder_of, run
+from runs.undisturbed import frame
+from system.saving import last_line
 from words.explaining import case, copy, failed, link, no_keytab
-from words.phrases import (BEGINS_AS_CACHE, CAUSES, CLASH, LARGE, OTHER_FILES, SEE_HELP, SHORT, TO_REPLACE, code,
-                           line_fault, unknown)
+from words.phrases import (BEGINS_AS_CACHE, CAUSES, CLASH, ERRORS, LARGE, OTHER_FILES, SEE_HELP, SHORT, TO_REPLACE,
+                           code, line_fault, unknown)
 
 BREAKS = ("crates/krb_driver",)
 
@@ -57,8 +59,9 @@ CASES = [
     failed(("klist", "-k", "s"), "read", f"error {ENXIO}", TWO, setting=socket_in),
     failed(("ktedit", "l"), "write", "bad link", None, stdin=ADD, setting=link(b"\xff")),
     # Inputs that fail, and large scripts.
-    *(case(f"{line} < .", line, TWO, ("cannot read input", CAUSES["EISDIR"]), status=3, out=b"", options=NO_INPUT)
-      for line in ("ktutil", "ktedit k", "ccedit k")),
+    *(case(f"{line} < .", line, TWO, ("cannot read input", CAUSES["EISDIR"]), status=3, out=out, options=NO_INPUT)
+      for line, out in (("ktutil", b""), ("ktedit k", b""), ("ccedit k", b""),
+                        ("hold -k k", frame(TWO) + last_line(ERRORS["EISDIR"])))),
     *(partial(case, f"{command}: a large script", f"{command} k", None, ("input too large", LARGE),
               stdin=bytes(LIMIT + 1)) for command in ("ktedit", "ccedit")),
 ]
