@@ -48,7 +48,7 @@ def summary(name: str, members: str, default: str = '"default_principal":"u@R"')
     return f'{{"file":"{name}","kind":"ccache",{default},"tickets":{members}}}\n'.encode()
 
 
-CASES = [
+THEOREMS = [
     # Each cache of caches/valid_tickets, and default principals of each length.
     overview(("-l", *(f"c{at}" for at in range(len(TICKETS)))),
              *(line_of(f"c{at}", wanted.status == 1) for at, (_, _, wanted) in enumerate(TICKETS)),
@@ -56,6 +56,10 @@ CASES = [
     overview(("-l", *(f"c{at}" for at in range(len(PRINCIPALS)))),
              *(line_of(f"c{at}", True, text) for at, text in enumerate(PRINCIPALS)),
              files={f"c{at}": cache(default=name) for at, name in enumerate(PRINCIPALS.values())}),
+]
+
+CASES = [
+    *THEOREMS,
     # Its name as it is loaded, once for each time that it is given, on one line.
     overview(("-lc", "FILE:t", "DIR::./e", "a\nb", "t"), line_of("t"), line_of("./e", True), line_of(r"a\x0ab"),
              line_of("t")),

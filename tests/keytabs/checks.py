@@ -35,14 +35,24 @@ EVEN = {
 # Modes, and the status; None where the mode has no line, since no other than the owner may read or write the file.
 MODES = {0o600: None, 0o711: None, 0o640: 0, 0o620: 0, 0o604: 1, 0o602: 1}
 
-# A keytab, and its objects, those of no file and of a damaged one in a pipe.
-THREE = keytab(replace(HOST, components=(b"\xff\x7f",), enctype=23), B, B)
-OBJECTS = """{"file":"k","mode":"644","entries":3,"free":0,"holes":0,"findings":[{"finding":"mode"},\
-{"finding":"weak","place":2,"kvno":3,"etype":23,"principal_hex":"ff7f4052"},\
-{"finding":"same","place":93,"first":48,"kvno":3,"etype":17,"principal":"b@R"},\
-{"finding":"missing","principal":"\\u007f\\"c\\u0080@R"}],"fault":null,"status":1}
+# A keytab with two holes that has each finding but `empty`, and a fault; and its object, and that of no file.
+EACH = keytab(5, replace(HOST, components=(b"\xff\x7f",), enctype=23, timestamp=0), B, B, replace(B, key=b""), 7,
+              replace(B, version8=4, version32=4), b"\0")
+OBJECTS = """{"file":"k","mode":"4644","entries":5,"free":12,"holes":2,"findings":[{"finding":"mode"},\
+{"finding":"weak","place":11,"kvno":3,"etype":23,"principal_hex":"ff7f4052"},\
+{"finding":"old","place":57,"kvno":3,"etype":17,"principal":"b@R"},\
+{"finding":"same","place":102,"first":57,"kvno":3,"etype":17,"principal":"b@R"},\
+{"finding":"old","place":102,"kvno":3,"etype":17,"principal":"b@R"},\
+{"finding":"size","place":147,"kvno":3,"etype":17,"principal":"b@R"},\
+{"finding":"hidden","place":147,"kvno":3,"etype":17,"principal":"b@R"},\
+{"finding":"clash","place":147,"first":57,"kvno":3,"etype":17,"principal":"b@R"},\
+{"finding":"old","place":147,"kvno":3,"etype":17,"principal":"b@R"},\
+{"finding":"aged","place":187,"kvno":4,"etype":17,"principal":"b@R"},\
+{"finding":"missing","principal":"\\u007f\\"c\\u0080\\u009f\u00a0@R"}],"fault":{"kind":1,"place":232},"status":1}
 {"file":"no","error":"no such file","status":1}
-{"file":"/dev/stdin","mode":null,"entries":2,"free":0,"holes":0,"findings":[],"fault":{"kind":1,"place":98},"status":1}
+"""
+PIPED = """{"file":"/dev/stdin","mode":null,"entries":2,"free":0,"holes":0,"findings":[],"fault":{"kind":1,"place":98},\
+"status":1}
 """
 
 # Keys as long as their type's, a byte shorter and longer. The last three types have no length.
@@ -64,7 +74,11 @@ def found(name: str, entries: list[Entry], *lines: str) -> Case:
 # Versions of a name, the old one first. A version of 8 bits begins again: one above 240 is older than one below 128.
 VERSIONS = (255, 1), (241, 127), (128, 241), (127, 240)
 
+THEOREMS = [Case("objects", ("ktcheck", "--json", "--older", "0", "--want", "\x7f\"c\x80\x9f\xa0@R", "k", "no"),
+                Outcome(1, OBJECTS.encode(), b"krbfile: no: no such file\n"), {"k": EACH}, mode=0o104_644)]
+
 CASES = [
+    *THEOREMS, Case("an object", ("ktcheck", "--json", "/dev/stdin"), Outcome(1, PIPED.encode()), stdin=TWO + b"\0"),
     found("keys of each length", SIZED, *(
         f"{word} {line_of(it, *SIZED[:at])}" for at, it in enumerate(SIZED) for word, is_so in (
             ("weak", it.enctype in (3, 16, 23)),
@@ -85,13 +99,7 @@ CASES = [
 
 
 def check(report: Report, program: str) -> None:
-    """Checks the mode of a plain file, also through a link, and objects of JSON."""
-    with folder_of({"k": THREE}) as folder:
-        os.chmod(os.path.join(folder, "k"), 0o644)
-        got = run(program, ("ktcheck", "--json", "--want", "\x7f\"c\x80@R", "k", "no"), folder)
-        piped = run(program, ("ktcheck", "--json", "/dev/stdin"), folder, TWO + b"\0")
-        report.compare("objects", Outcome(1, OBJECTS.encode(), b"krbfile: no: no such file\n"),
-                       replace(got, out=got.out + piped.out))
+    """Checks the mode of a plain file, also through a link."""
     with folder_of({"k": TWO}) as folder:
         path = os.path.join(folder, "k")
         os.symlink("k", os.path.join(folder, "link"))

@@ -90,7 +90,12 @@ def diff(options: str, ours: bytes | None, others: bytes | None, *lines: str, er
     return Case(f"compared: {options}", ("ktdiff", *words_of(options), "k", "t"), wanted, files)
 
 
+# What only the first has and where both differ, in its order; then what only the second has.
+THEOREMS = [diff("", keytab(C, OTHER, HOST, HOST), keytab(AES256, FIVE, B, AES256), "- 2 kvno 3 etype 17 c@R",
+                f"! 47 120 {Y}", f"- 92 {X}", "+ 2 kvno 5 etype 18 host/a@R", "+ 69 kvno 5 etype 17 host/a@R")]
+
 CASES += [
+    *THEOREMS,
     # Under another name: what is asked for goes by the old one, what it meets by the new one.
     *(Case("an alias", ("ktcopy", "-p", "b@R", "--as", "c@R", "k", "k"), wanted, {"k": image},
            {"k": keytab(HOST, B, replace(C, name_type=1))}) for image, wanted in (
@@ -104,8 +109,6 @@ CASES += [
          printed("clash 53 47 kvno 3 etype 17 c@R", status=1)),
     # Which keys two keytabs do not share: not by order, times, name types and doubles.
     diff("", TWO, keytab(OTHER), f"- 2 {X}", f"! 53 2 {Y}"), diff("", keytab(OTHER), TWO, f"! 2 53 {Y}", f"+ 2 {X}"),
-    diff("", keytab(C, HOST, OTHER, HOST), keytab(AES256, FIVE, B), "- 2 kvno 3 etype 17 c@R", f"- 47 {X}",
-         f"! 98 {len(keytab(AES256, FIVE))} {Y}", f"+ {line_of(AES256)}", f"+ {line_of(FIVE, AES256)}"),
     diff("", keytab(OTHER, B), keytab(9, B), f"! 2 15 {Y}"), diff("", keytab(9, B), keytab(B, OTHER), f"! 15 2 {Y}"),
     *(diff(options, *images) for options, *images in (
         ("", TWO, TWO), ("", keytab(B, 9, HOST, B), keytab(HOST, replace(B, timestamp=9, name_type=3))),

@@ -67,7 +67,22 @@ def fault(name: str, place: int = 53) -> Output:
 
 K = labelled(k=[SOUND])
 
+THEOREMS = [
+    # Names without entries, each once, as they print, and a file without an entry.
+    check_up("--want c@R --want=b@R --want \\c@R --want @R n d k z e", labelled(
+        n=["empty", "missing c@R", "missing b@R", "missing @R", EMPTY],
+        d=["missing c@R", "missing b@R", "missing @R", *BROKEN], k=["missing c@R", "missing @R", SOUND],
+        z=["missing c@R", "missing b@R", "missing @R", "fault 1 at 2", EMPTY],
+        e=["missing c@R", "missing @R", "entries 1 free 8 holes 2"]),
+        *words("n", "missing", "empty"), *fault("d"), *fault("z", 2), status=1, mode=0o100_600),
+    # What is allowed has its lines, and only other findings count for the status.
+    *(check_up(" ".join(["--older 1 --want c@R all", *(f"--allow {it}" for it in FINDINGS if it != counted)]), ASKED,
+               *words("all", *IN_ALL), status=int(counted not in ("", "old")), mode=0o100_644)
+      for counted in ("", *IN_ALL)),
+]
+
 CASES = [
+    *THEOREMS,
     # One file has no label; of several each line has one, with the name as it is loaded. A newline makes no line.
     check_up("FILE:k", [SOUND]), check_up("-H FILE:k", K),
     check_up(("FILE:FILE:k", "./k", "a\nb", "no\nk"), labelled(**{"FILE:k": WEAK, "./k": [SOUND], r"a\x0ab": [SOUND]}),
@@ -79,12 +94,6 @@ CASES = [
              *words("w", "weak"), *fault("d"), MISSING, *words("o", "old"), status=1),
     check_up("o all", labelled(o=OLD, all=ALL), *words("o", "old"),
              *words("all", "weak", "hidden", "same", "clash", "mode", "size"), status=1),
-    # Names without entries, each once, as they print, and a file without an entry.
-    check_up("--want c@R --want=b@R --want \\c@R --want @R n d k z", labelled(
-        n=["empty", "missing c@R", "missing b@R", "missing @R", EMPTY],
-        d=["missing c@R", "missing b@R", "missing @R", *BROKEN], k=["missing c@R", "missing @R", SOUND],
-        z=["missing c@R", "missing b@R", "missing @R", "fault 1 at 2", EMPTY]),
-        *words("n", "missing", "empty"), *fault("d"), *fault("z", 2), status=1),
     # What does not count has no line, nor words; a file without another line has none at all, and no object.
     check_up("-q --allow weak k no e o w", [], MISSING, status=1),
     check_up("-q --allow weak o w all d n", labelled(all=COUNTED, d=BROKEN, n=["empty", EMPTY]),
@@ -94,9 +103,6 @@ CASES = [
         '{"file":"o","mode":"600","entries":2,"free":0,"holes":0,"findings":[{"finding":"old","place":2,"kvno":3,'
         '"etype":17,"principal":"host/a@R"},{"finding":"missing","principal":"b@R"}],"fault":null,"status":1}'],
              *words("o", "missing"), status=1),
-    # What is allowed has its lines, and only other findings count for the status.
-    *(check_up(" ".join(["--older 1 --want c@R all", *(f"--allow {it}" for it in FINDINGS if it != counted)]), ASKED,
-               *words("all", *IN_ALL), status=int(counted not in ("", "old"))) for counted in ("", *IN_ALL)),
     # An output that takes nothing ends the run with the first file that would print something.
     *(check_up(line, [], *lines, status=status, options=FULL) for line, lines, status in (
         ("no k x", [MISSING, FAILED], 3), ("--json k no", [FAILED], 3), ("--json -q k e o", [], 0),

@@ -3,7 +3,7 @@
 from dataclasses import replace
 from functools import partial
 
-from makers.images import B, PA_TYPE, TICKET, Entry, Name, cache, keytab
+from makers.images import B, PA_TYPE, TICKET, Entry, Name, cache, encrypted, keytab, ticket
 from names.several_keytabs import MISSING, UNREAD
 from runs.harness import Case, Line, Outcome, Report
 from runs.system_calls import preloaded
@@ -26,6 +26,11 @@ def table(*rows: str, widths: tuple[int, ...]) -> str:
 of_keys, of_tickets = (partial(table, heads) for heads in (
     "KVNO|ADDED|KEYS|PRINCIPAL", "ENDS|RENEW|SESSION|TICKET|SERVICE"))
 ends = partial(replace, TICKET, authtime=NOW - 9, endtime=0)
+
+
+def of_type(*numbers: bytes) -> bytes:
+    """Returns a ticket with an encryption type of its own, and perhaps a key version."""
+    return ticket(encrypted(*numbers))
 
 
 def added(kvno: int, **more: int) -> Entry:
@@ -58,12 +63,14 @@ KEYTABS = {
 CACHES = {
     ("0 tickets", (PA_TYPE, TICKET.removed())): "",
     ("1 ticket", (PA_TYPE, TICKET)): of_tickets("ended 9 d ago|-|aes128|-|krbtgt/R@R", widths=(13, 5, 7, 6)),
-    ("6 tickets", (ends(), ends(starttime=NOW + 5), ends(endtime=NOW), ends(endtime=NOW + 7_200, renew_till=NOW + 1),
+    ("6 tickets", (ends(ticket=of_type(b"\x12", b"\2")), ends(starttime=NOW + 5, ticket=of_type(b"\x17")),
+                   ends(endtime=NOW, ticket=of_type(b"\x80")), ends(endtime=NOW + 7_200, renew_till=NOW + 1),
                    ends(endtime=NOW + 7_200, starttime=NOW + 120, renew_till=NOW, enctype=1),
                    ends(endtime=NOW + 1, authtime=NOW + 1, server=Name((b"h", b"a")), enctype=77, renew_till=1))):
-        of_tickets("-|-|aes128|-|krbtgt/R@R", "-|-|aes128|-|krbtgt/R@R", "ended now|-|aes128|-|krbtgt/R@R",
+        of_tickets("-|-|aes128|aes256 kvno 2|krbtgt/R@R", "-|-|aes128|rc4!|krbtgt/R@R",
+                   "ended now|-|aes128|-128|krbtgt/R@R",
                    "in 2 h|in 1 s|aes128|-|krbtgt/R@R", "starts in 2 min|now|1!|-|krbtgt/R@R",
-                   "starts in 1 s|53 y ago|77|-|h/a@R", widths=(15, 8, 7, 6)),
+                   "starts in 1 s|53 y ago|77|-|h/a@R", widths=(15, 8, 7, 13)),
 }
 
 # Files without a time, and their blocks. The first bytes say that `s` is a cache.
@@ -91,12 +98,17 @@ CASES = [
 ]
 
 
+# Each keytab and each cache twice at that time.
+THEOREMS = [
+    Case(f"{kind}, {what}", ("show", "f", "f"), Outcome(0, "\n".join([f"f: {kind}, {what}\n{text}"] * 2).encode()),
+         {"f": make(*those)}, clock=NOW)
+    for kind, make, files in (("keytab", keytab, KEYTABS), ("cache of u@R", cache, CACHES))
+    for (what, those), text in files.items()
+]
+
+
 def check(report: Report, program: str) -> None:
-    """Shows each keytab and each cache twice at that time, by a clock that can be read once."""
+    """Makes these, by a clock that can be read once."""
     under = preloaded(report, program, "what is shown at a time")
-    files = [("keytab", keytab(*those), what, text) for (what, those), text in KEYTABS.items()]
-    files += [("cache of u@R", cache(*those), what, text) for (what, those), text in CACHES.items()]
-    for kind, image, what, text in files if under else ():
-        out = "\n".join([f"f: {kind}, {what}\n{text}"] * 2).encode()
-        case = Case(f"{kind}, {what}", ("show", "f", "f"), Outcome(0, out), {"f": image})
+    for case in THEOREMS if under else ():
         under.check(report, case, CLOCK=NOW, FAIL_CLOCK=2)

@@ -47,7 +47,7 @@ class Case:
     stdin: bytes = b""
     # The time of the clock, if it is not that of the system.
     clock: int | None = None
-    # The mode of the files, once they were made.
+    # The mode of the files, or 0: that of files as a test makes them.
     mode: int = 0
 
     def size(self) -> int:
@@ -58,7 +58,7 @@ class Case:
         """Runs it and reports it."""
         if report.leaves_out(self.size()):
             return
-        report.seen.append(replace(self, mode=mode_of_files()))
+        report.seen.append(replace(self, mode=self.mode or mode_of_files()))
         try:
             found = faults_of(self, *run_case(program, self))
         except subprocess.TimeoutExpired:
@@ -163,6 +163,8 @@ def piped(program: str, words, folder: str, **options) -> subprocess.Popen[bytes
 def run_case(program: str, case: Case, **options) -> tuple[Outcome, dict[str, bytes]]:
     """Runs a case in a folder of its own, and returns its outcome and the files that are there afterwards."""
     with folder_of(case.files) as folder:
+        for name in case.files if case.mode else ():
+            os.chmod(os.path.join(folder, name), stat.S_IMODE(case.mode))
         return run(program, case.words, folder, case.stdin, **options), files_in(folder)
 
 

@@ -143,6 +143,11 @@ def known() -> Iterator[Row]:
                    given=[ADDENT, KEY, "l -t"]), setting
 
 
+# Those at the second in which a ticket ends or an entry is as old as is asked, and at the second before.
+THEOREMS = [replace(case, clock=setting["CLOCK"]) for case, setting in chain(aged(), valid())
+           if setting["CLOCK"] in (999_999, 1_000_000, 1_000_006, 1_000_007)]
+
+
 def check(report: Report, program: str) -> None:
     """Makes each run."""
     under = preloaded(report, program, "the clock")

@@ -29,8 +29,8 @@ K, PLACED, C = "hold -k k", f"hold {IN_PLACE} -k k", "hold k"  # lines that hold
 NONE, EMPTY = keytab(), frame(keytab())  # a keytab without an entry, and its frame
 
 # Inputs that are no whole frame: cut, longer than it says, and of a length that is spelled in another way.
-CUT = (b"\n", b"2", b"2\n", b"2\n\5", b"98\n" + TWO[:-1], b"98" + TWO, TWO)
-LONGER = (b"2\n\5\2\n", b"97\n" + TWO, b"0\n\0", EMPTY * 2, b"\n" + EMPTY)
+CUT = (b"\n", b"2", b"2\n", b"2\n\5", b"98" + TWO, TWO)
+LONGER = (b"2\n\5\2\n", b"0\n\0", EMPTY * 2, b"\n" + EMPTY)
 ODD = (*(front + EMPTY for front in (b" ", b"+", b"-", b"0x", b"\0", b"0" * 10)),
        *(length + b"\n\5\2" for length in (b"2 ", b"2\r", b"2\0", b"2.0", b"4294967298", b"9999999999", b"9" * 20)))
 
@@ -72,14 +72,20 @@ NOT_A_FRAME = ("input is not whole", NOT_WHOLE)  # the message about other input
 IN_THE_WAY = {"setting": in_the_way}
 LEFT = {"k": TWO, "k.krbfile": b"left"}  # a keytab beside what a killed run left
 
+THEOREMS = [
+    given(K, None, b""), given(C, USUAL, b""), given(K, TWO, b"0000000002\n\5\2", after=NONE), given(K, TWO, frame(TWO)),
+    given(C, VERSION_3, frame(USUAL), after=USUAL), refused(PLACED, ("k: no such file", "")),
+    given(K, TWO, frame(TWO[:-1]), damaged(2, 53)), *(
+        given(K, TWO, data, NOT_A_FRAME) for data in (b"98\n" + TWO[:-1], b"97\n" + TWO)),
+]
+
 CASES = [
-    *(given(line, TWO, b"") for line in (K, PLACED)), given(K, None, b""), given(C, USUAL, b""),
+    *THEOREMS, *(given(line, TWO, b"") for line in (K, PLACED)),
     *(given(line, TWO, EMPTY, after=NONE) for line in (K, PLACED, "hold -k FILE:k", "hold -k WRFILE:k")),
-    given(K, TWO, b"0000000002\n\5\2", after=NONE), given(K, TWO, frame(TWO)), given(K, None, EMPTY),
-    given(K, None, frame(TWO), after=TWO), given(K, TWO, frame(old(HOST, B)), after=old(HOST, B)),
+    given(K, None, EMPTY), given(K, None, frame(TWO), after=TWO), given(K, TWO, frame(old(HOST, B)), after=old(HOST, B)),
     given("hold -k --v1-big k", old(HOST, order=BIG), frame(old(order=BIG)), after=old(order=BIG)),
     # A cache of version 3 is as any, and nothing is said of entries that MIT's programs do not see.
-    given(C, VERSION_3, frame(USUAL), after=USUAL), given(C, USUAL, frame(VERSION_3), after=VERSION_3),
+    given(C, USUAL, frame(VERSION_3), after=VERSION_3),
     given(K, TWO, frame(UNSEEN), after=UNSEEN), given(C, USUAL, frame(USUAL)),
     # What is given is at fault.
     *(given(K, TWO, data, NOT_A_FRAME) for data in (*CUT, *LONGER, *ODD)),
@@ -90,7 +96,7 @@ CASES = [
         (b"\5", SHORT), (b"\5\2", HELD_AS_KEYTAB), (b"\4\4", BEGINS_AS_NO_CACHE), (b"\5\4\0", BAD_HEADER),
         (b"\5\3", BAD_DEFAULT))),
     *(given(K, TWO, frame(data), damaged(fault, place)) for data, fault, place in (
-        (b"\5\2\0\0", 1, 2), (TWO[:-1], 2, 53), (keytab(B, record(bytes(3))), 3, 47))),
+        (b"\5\2\0\0", 1, 2), (keytab(B, record(bytes(3))), 3, 47))),
     given(C, USUAL, frame(CUT_CACHE), damaged(4, 392)),
     given("hold -k --v1-big k", old(order=BIG), frame(old(HOST)), damaged(2, 2)),
     # Sizes.
@@ -104,7 +110,7 @@ CASES = [
     refused(K, ("k: refused 1", code(1)), files={"k": TWO[:-1]}),
     lambda: refused(K, ("k: file too large", LARGE), files={"k": sized(LIMIT + 1)}),
     refused(C, ("k: refused 1", code(1, "hold")), files={"k": CUT_CACHE}),
-    *(refused(line, ("k: no such file", "")) for line in (C, f"hold {IN_PLACE} k", PLACED)),
+    *(refused(line, ("k: no such file", "")) for line in (C, f"hold {IN_PLACE} k")),
     # It could not be saved: what is in the way is beside the file that a link leads to. What a load says comes first.
     case("hold of a link", "hold -k l", TWO, ("l: cannot write", CAUSES["in the way"].replace("NAME", "k")), status=3,
          out=last_line(ERRORS["in the way"]), stdin=EMPTY,

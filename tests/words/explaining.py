@@ -5,7 +5,7 @@ from collections.abc import Callable
 from dataclasses import dataclass, field
 
 from makers.images import USUAL
-from runs.harness import Line, Outcome, Report, differences, files_in, folder_of, shown, text, words_of
+from runs.harness import EXPLAIN, Case, Line, Outcome, Report, differences, files_in, folder_of, shown, text, words_of
 from runs.terminal import WAYS
 from words.phrases import CAUSES, code
 
@@ -33,11 +33,18 @@ class Explained:
     options: dict[str, object] = field(default_factory=dict)
     # A change to the folder before the run.
     setting: Callable[[str], None] = lambda folder: None
+    # The mode of its files, if its output depends on that.
+    mode: int = 0
 
     def wanted(self, explained: bool, out: bytes) -> Outcome:
         """Returns the expected outcome with that output."""
         lines = [line for one in self.output for line in (one if explained else one[:1]) if line]
         return Outcome(self.status, out, "".join(f"krbfile: {line}\n" for line in lines).encode())
+
+    def as_case(self) -> Case:
+        """Returns it as a case, with explanations."""
+        wanted = self.wanted(True, self.out or b"")
+        return Case(self.name, (EXPLAIN, *self.words), wanted, self.files, self.after, self.stdin, mode=self.mode)
 
     def check(self, report: Report, program: str) -> None:
         """Runs it on a pipe and with explanations: everything else is the same."""
