@@ -127,10 +127,10 @@ samples:
 	tests/samples samples
 
 # The programs and libraries that the gate leaves are what is tested, so each crate is proved once. The gate would put
-# libraries of earlier checks back in their place, and it takes no folder that holds a link. A program that it took over
-# from an earlier run has no object file: then the static one is left out. The theorems about the files of other
-# programs are written before. The wrong bodies of a crate are tried as soon as the gate has proved it; what that gave
-# is shown last, even if a test failed.
+# libraries of earlier checks back in their place, and it takes no folder that holds a link. A program that it took
+# over from an earlier run has no object file: then the static one is left out. The theorems of corpus_samples are
+# written before. The wrong bodies of a crate are tried as soon as the gate has proved it; what that gave is shown
+# last, even if a test failed.
 test:
 	$(need_rt)
 	rm -f $(BUILT) $(BUILT).o $(STATIC) $(LINKER_NAME) $(ARCHIVE)

@@ -11,7 +11,7 @@ LETTERS = {
     "klist": {"k": "keytab", "c": "cache", "t": "times", "e": "enctypes", "K": "keys", "f": "flags", "C": "config",
               "l": "list", "s": "silent"},
     "show": {"k": "keytab"}, "ktcheck": {"q": "quiet", "H": "with-filename"}, "ktremove": KEPT, "ktcopy": KEPT,
-    "ktdiff": KEPT,
+    "ktdiff": KEPT, "hold": {"k": "keytab"},
     "ccremove": {"n": "dry-run", "p:": "service"}, "ktfind": {}, "ktedit": {}, "ccedit": {}, "ktutil": {},
 }
 LONG = ("json", "for=", "v1-big", "in-place", "allow=", "older=", "want=", "age=", "as=", "replace",
@@ -20,12 +20,11 @@ LONG = ("json", "for=", "v1-big", "in-place", "allow=", "older=", "want=", "age=
 # The names of the operands; the last one is for all that follow.
 OPERANDS = {"ktfind": ("FILE", "KVNO", "ETYPE", "NAME"), "ktcopy": ("FROM", "TO"), "ktdiff": ("A", "B"), "ktutil": ()}
 
-# What each definition is given before the files, which have an input after them, and klist's by its other options.
-GIVEN = {"klist": ("explains",), "ktfind": ("explains",), "ktcopy": ("explains",), "ktdiff": ("explains",),
-         "ktedit": ("explains",), "ccedit": ("explains",), "ktcheck": ("explains", "mode", "clock"),
-         "show": ("explains", "clock"), "ktremove": ("explains", "clock"), "ccremove": ("explains", "clock"),
-         "ktutil": ("explains", "clock"), "klist_silent": ("clock",), "klist_overview": ("explains", "clock")}
-READING = ("ktedit", "ccedit", "ktutil")
+# What each definition is given before the files, which have an input after them, and klist's by its other options. Those
+# of other names are given whether messages are explained.
+GIVEN = {"ktcheck": ("explains", "mode", "clock"), "klist_silent": ("clock",),
+         **dict.fromkeys(("show", "ktremove", "ccremove", "ktutil", "klist_overview"), ("explains", "clock"))}
+READING = ("ktedit", "ccedit", "ktutil", "hold")
 OTHERS = {"list": "klist_overview", "silent": "klist_silent"}
 TIMED = {"show", "list", "silent", "age", "older", "expired"}  # the command and the options that ask for the time
 ADDING = (b"add_entry", b"addent")  # the lines of ktutil that do
@@ -55,7 +54,7 @@ class Words:
         self.explains = EXPLAIN in words[:end]
         self.command, *rest = [word for at, word in enumerate(words) if word != EXPLAIN or at > end]
         if self.command not in LETTERS:
-            raise NotComputed(f"the command {self.command}" if self.command == "hold" else "help or the version")
+            raise NotComputed("help or the version")
         letters = LETTERS[self.command]
         names = [name + "=" * (":" in letter) for letter, name in letters.items()]
         try:
@@ -85,7 +84,7 @@ def term_of(case: Case) -> str:
     command = next((it for flag, it in OTHERS.items() if flag in words.flags), words.command)
     files = pairs([(name, bytes_of_digits(image)) for name, image in case.files.items()])
     parts = {"explains": str(words.explains).lower(), "mode": str(case.mode), "clock": str(case.clock or 0)}
-    given = [command, *(parts[it] for it in GIVEN[command]), f"(given ({files}))"]
+    given = [command, *(parts[it] for it in GIVEN.get(command, ("explains",))), f"(given ({files}))"]
     given += [f"({bytes_of_digits(case.stdin)})"] * (command in READING)
     flags = listed([text(it.encode()) for it in words.flags])
     values = pairs([(name, text(value.encode())) for name, value in words.values])

@@ -29,7 +29,7 @@ def of_manual(program: str) -> Iterator[tuple[str, set[object]]]:
     shown = re.findall(r"^  ([a-z]+) +(.*)$", helped(program, "ktcheck").partition("\nStatuses:")[0], re.MULTILINE)
     yield "findings", found ^ {*phrases.FINDINGS.items()} | found ^ {*shown}
     options = {option for command in ("", *COMMANDS) for option in offered(program, command)[1]}
-    yield "what is computed", {f"{command} {each}" for command in {*COMMANDS} - {"hold"}
+    yield "what is computed", {f"{command} {each}" for command in COMMANDS
                                for each in offered(program, command)[1] - known(command) - {"-h", "--help"}}
     yield "options", {each for each in options if not re.search(rf"\bFl {each[1:]}\b", page)}
 

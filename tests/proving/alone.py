@@ -15,7 +15,7 @@ from proving.built import folder_of, not_made_below
 USUAL = re.compile(r"(?:by-macro:|logic|statements|crate) ")  # what the compiler says of each check
 FITS_NOTHING = 2  # its status if a name fits no function
 DECLARED = re.compile(r"\b(?:fn|mod|struct|enum|trait) (\w+)")
-SAMPLES = "samples"  # the crate of the theorems
+SAMPLES = "samples", "corpus_samples"  # the crates of the theorems
 ITEM = re.compile(r"(?:--.*\n)*(?:(?:abbrev|unfoldable|pub|record|data) )*([^\s:({]+) ?[:({]")  # how its items begin
 NAME = re.compile(r"[^\s(){};,.∷]+")  # a name in one
 
@@ -78,21 +78,21 @@ def needed(name: str, items: dict[str, str]) -> set[str]:
     return found
 
 
-def write_theorem(module: str, name: str, items: dict[str, str], folder: str) -> None:
+def write_theorem(path: Path, name: str, items: dict[str, str], folder: str) -> None:
     """Writes a crate that has one theorem in place of a module."""
-    shutil.copytree(os.path.join(folder_of(SAMPLES), "proofs"), os.path.join(folder, "proofs"))
+    shutil.copytree(path.parent, os.path.join(folder, "proofs"))
     one = re.sub(rf"(?m)^(pub )?{re.escape(name)}(?= )", r"\1the_theorem", items[name])
     texts = {**items, name: re.sub(r"(?m)^the_theorem :", "pub the_theorem :", one)}
     parts = [text for each, text in texts.items() if each in needed(name, items)]
-    Path(folder, "proofs", f"{module}.antt").write_text("\n\n".join(parts).rstrip("\n") + "\n", "utf-8")
+    Path(folder, "proofs", path.name).write_text("\n\n".join(parts).rstrip("\n") + "\n", "utf-8")
     Path(folder, "src").mkdir()
-    Path(folder, "src", "lib.rt").write_text(SOURCE.format(module=module), "utf-8")
+    Path(folder, "src", "lib.rt").write_text(SOURCE.format(module=path.stem), "utf-8")
 
 
 def check_theorem(name: str) -> int:
     """Computes a theorem of the samples, with what it needs, and returns the status."""
-    paths = Path(folder_of(SAMPLES), "proofs").glob("*.antt")
-    modules = {path.stem: items_of(path.read_text("utf-8")) for path in paths}
+    paths = (path for crate in SAMPLES for path in Path(folder_of(crate), "proofs").glob("*.antt"))
+    modules = {path: items_of(path.read_text("utf-8")) for path in paths}
     module = next((each for each, items in modules.items() if name in items), None)
     if not name or not module:
         names = [each for items in modules.values() for each in items if each]
@@ -100,4 +100,4 @@ def check_theorem(name: str) -> int:
         return FITS_NOTHING
     with tempfile.TemporaryDirectory(prefix="krbfile-") as folder:
         write_theorem(module, name, modules[module], folder)
-        return check_in(SAMPLES, ["computes"], folder)
+        return check_in(module.parts[-3], ["computes"], folder)

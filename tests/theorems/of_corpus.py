@@ -1,17 +1,19 @@
 """Theorems of the files in `corpus`.
 
-Of listings: the definitions list each file as MIT's klist does. Of addresses and authorization data: each ticket has
-those that MIT's `klist -a -n -d` shows. It shows the types of the data, signed, and the addresses, of IPv4 and IPv6 in
-their own forms and of the others only the types. Of changes: the definitions leave the bytes that other programs left.
+Of listings: the definitions list each file as MIT's klist does. Of addresses, authorization data and encryption: each
+ticket has those that MIT's `klist -e -a -n -d` shows. It shows the types of the data, signed, the addresses, of IPv4 and
+IPv6 in their own forms and of the others only the types, and of a ticket's own bytes the encryption type. Of changes: the definitions leave the bytes that other programs left.
 Of look-ups: in keytabs they find what MIT's library finds.
 """
 
 import re
 from ipaddress import ip_address
 
+from keytabs.listings import BY_NAME
 from peers.corpus import cases, files, given, writers
 from theorems.antt import Module, bytes_of_digits, file_of, identifier, listed, proof_of, text, theorem
-from theorems.mit_listings import cache_listing, credentials, keytab_listing, parts_of
+from theorems.mit_listings import cache_listing, credentials, etype_name, keytab_listing, parts_of
+from theorems.of_rows import encryption
 
 # Files where MIT's programs say something else: they stop at an empty component, and read a record of version 1
 # that is longer than the file, and krbfile refuses version 2.
@@ -52,17 +54,20 @@ def listings(kind: str) -> Module:
                   (*items, *[OFFSET] * (kind == "ccache")))
 
 
-DETAILS = re.compile(r"AD types: (.*)\tAddresses: (.*)")
+DETAILS = re.compile(r"(?:Etype \(skey, tkt\): \S+, (\S+) .*)?AD types: (.*)\tAddresses: (.*)")
+# The key versions in the tickets of caches where one is not 1, as `openssl asn1parse` shows them.
+KVNOS = {"java-save": (1, 8, 2, 5), "kinit-service": (8,), "kinit-v3": (1, 8), "u2u": (1, None), "windows-pac": (2,),
+         "windows-rc4": (1, 7)}
 UNKNOWN = "unknown addrtype "
 
 TICKET_FACTS = """-- the type of an address, and its bytes if it is of IPv4 or IPv6
 abbrev address : TypedData → ℕ × List ℕ
 address x = if x.kind == 2 || x.kind == 24 then (x.kind, x.bytes) else (x.kind, [])
-""", """-- the types of the authorization data of a ticket, and its addresses
-abbrev facts : PlacedCredential → List ℕ × List (ℕ × List ℕ)
-facts x = (map (λ a. a.kind) x.1.authdata, map address x.1.addresses)
+""", """-- the encryption of a ticket, the types of its authorization data, and its addresses
+abbrev facts : PlacedCredential → Option TicketEncryption × List ℕ × List (ℕ × List ℕ)
+facts x = (ticket_encryption x.1.ticket, map (λ a. a.kind) x.1.authdata, map address x.1.addresses)
 """, """-- those of each ticket of the cache in an image
-abbrev all_facts : List ℕ → List (List ℕ × List (ℕ × List ℕ))
+abbrev all_facts : List ℕ → List (Option TicketEncryption × List ℕ × List (ℕ × List ℕ))
 all_facts image = map facts (filter (λ x. not (is_config x.1)) (placed_credentials (cache image)))
 """
 
@@ -75,17 +80,19 @@ def address(shown: str) -> str:
     return f"({2 if it.version == 4 else 24}, {bytes_of_digits(it.packed)})"
 
 
-def ticket(types: str, addresses: str) -> str:
-    """Returns what MIT's klist shows of a ticket."""
+def ticket(kvno: int | None, etype: str | None, types: str, addresses: str) -> str:
+    """Returns what MIT's klist shows of a ticket, which has that key version."""
+    own = encryption(BY_NAME[etype_name(etype)], kvno) if etype else "None"
     kinds = [str(int(it) % 2**16) for it in types.split(", ") if it]
     those = [address(it) for it in addresses.split(", ") if it != "(none)"]
-    return f"({listed(kinds)}, {listed(those)})"
+    return f"({own}, {listed(kinds)}, {listed(those)})"
 
 
 def addresses_of(name: str) -> str:
     """Returns the theorem of a cache."""
-    shown = [ticket(*DETAILS.search(details).groups()) for first, details in credentials(parts_of(name)[1])
-             if not first.startswith("config: ")]
+    tickets = [each for first, each in credentials(parts_of(name)[1]) if not first.startswith("config: ")]
+    shown = [ticket(kvno, *DETAILS.search(each).groups())
+             for each, kvno in zip(tickets, KVNOS.get(name, [1] * len(tickets)), strict=True)]
     return theorem(f"{writers()[name]}; as MIT's klist shows them", f"{identifier(name)}-lists",
                    f"all_facts {file_of(name)}", listed(shown))
 
@@ -93,7 +100,7 @@ def addresses_of(name: str) -> str:
 def addresses() -> Module:
     """Returns the theorems of all caches."""
     names = [name for name, _ in files("ccache") if name not in ALONE]
-    return Module("Addresses", "Addresses and authorization data of the tickets that other programs wrote.",
+    return Module("Addresses", "Encryption, authorization data and addresses of tickets of other programs.",
                   (*TICKET_FACTS, *map(addresses_of, names)))
 
 

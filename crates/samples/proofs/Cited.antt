@@ -34,4 +34,4 @@ pub use Rattle.krb_editors.specs.MissingFiles.{is_missing, missing_error}
 pub use Rattle.krb_editors.specs.Removing.{is_none, seen_after}
 pub use Rattle.krb_editors.specs.Ktremove.{ktremove_plan, old_kvno, needed_time}
 pub use Rattle.krb_ktutil.specs.KtutilTalk.{TalkDue, quiet_run, talk_due, first_talk}
-pub use Rattle.krb_editors.specs.Hold.{frame, framed, most_frame, held_in, received}
+pub use Rattle.krb_editors.specs.Hold.{frame, most_frame, held_in, received}

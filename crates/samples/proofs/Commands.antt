@@ -1,46 +1,19 @@
 -- Parts of commands that none of the computed rows of the tests show.
-use Rattle.samples.proofs.Cited.{◌≡◌, ℕ, List, [], ◌∷◌, ◌++◌, codes, replicate, map, true, false, Option, None, Some, Ok, Err, pos, negsuc, refl, Well, Displays, none, RunEnd, FileNotWritten, NoSuchFile, Word, Without, Ending, ending_status, frame, framed, is_none, seen_after}
+use Rattle.samples.proofs.Cited.{◌≡◌, [], ◌∷◌, codes, map, true, false, None, Ok, Err, refl, Well, Displays, RunEnd, FileNotWritten, NoSuchFile, Word, Without, Ending, ending_status, is_none, seen_after}
 use Rattle.krb_json.specs.Cache.{cache_json_text}
 use Rattle.krb_json.specs.Keytab.{keytab_json_text}
 use Rattle.krb_audit.specs.Findings.{is_out}
-use Rattle.krb_audit.specs.CheckUp.{checked}
-use Rattle.krb_audit.specs.Report.{report}
-use Rattle.krb_show.specs.EtypeNames.{encryption_cell}
 use Rattle.krb_editors.specs.Ktedit as ktedit
 use Rattle.krb_editors.specs.declared.removing.FilesSeen.TheVariants as seen
-use Rattle.samples.proofs.Given.{hex, keytab, cache, events, b, two, worked}
+use Rattle.samples.proofs.Given.{hex, keytab, cache, events, two, worked}
 use Rattle.samples.proofs.Unfolded.{on_literals}
 
 -- ---- ktcheck
-
--- what is found about a keytab whose file has a mode
-abbrev checked_lines : Option ℕ → List ℕ → List ℕ
-checked_lines mode image = report [] none (checked mode None [] (keytab image))
 
 -- MIT's programs take counts and lengths from 1 to 32,767
 check-out : map is_out (0 ∷ 1 ∷ 32767 ∷ 32768 ∷ []) ≡ true ∷ false ∷ false ∷ true ∷ []
 unfolding on_literals
 check-out = refl
-
--- `mode`: group or others may read or write the file; after the findings come the fault and the counts
-check-mode : checked_lines (Some 0o100640) (hex (codes "0502ffffffd1") ++ (replicate 47 0 ++ (b ++ (hex (codes "0000")))))
-    ≡ codes "mode 640\nfault 1 at 98\nentries 1 free 47 holes 1\n"
-unfolding on_literals
-check-mode = refl
-
--- the twelve low bits of a mode are printed, in octal
-check-mode-bits : checked_lines (Some 0o104666) (hex (codes "0502")) ≡ codes "mode 4666\nempty\nentries 0 free 0 holes 0\n"
-unfolding on_literals
-check-mode-bits = refl
-
--- ---- show
-
--- a ticket's own enctype, which may have no name, and its kvno, if it has one
-ticket-cells : map encryption_cell (Some (record { etype = pos 18; kvno = Some 2 }) ∷ Some (record { etype = pos 23; kvno = None })
-    ∷ Some (record { etype = negsuc 127; kvno = None }) ∷ Some (record { etype = pos 65536; kvno = None }) ∷ None ∷ [])
-    ≡ codes "aes256 kvno 2" ∷ codes "rc4!" ∷ codes "-128" ∷ codes "65536" ∷ codes "-" ∷ []
-unfolding on_literals
-ticket-cells = refl
 
 -- ---- klist --json
 
@@ -72,20 +45,10 @@ ended end = record { ending = end; status = ending_status end }
 none-has-it : map (λ end. is_none (seen_after (seen_after seen.None (ended (Ok Without))) (ended end))) (Err (NoSuchFile Word) ∷ Ok Well ∷ Err FileNotWritten ∷ []) ≡ true ∷ false ∷ false ∷ []
 none-has-it = refl
 
--- ---- ktedit and hold
+-- ---- ktedit
 
 -- what changes nothing is not saved
 edit-displays : ktedit.edits (events (codes "start\nstep 0\n")) (codes "k") (keytab (hex (codes "0502")))
     ≡ Displays (codes "k") (record { out = codes "walk 0 at 2\nwalk 0 end 2\n"; ending = Ok Well; takes = false })
 unfolding on_literals
 edit-displays = refl
-
--- between programs an image is handed over after its length and a newline
-hold-frame : frame (hex (codes "0502")) ≡ hex (codes "320a0502")
-unfolding on_literals
-hold-frame = refl
-
--- what is not as long as it says is no image
-hold-framed : (framed (hex (codes "320a0502")) ≡ Some (hex (codes "0502"))) × (framed (hex (codes "330a0502")) ≡ None)
-unfolding on_literals
-hold-framed = (refl, refl)

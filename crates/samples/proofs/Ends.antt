@@ -1,10 +1,9 @@
 -- How runs end, when they read the clock, and what hold takes: worked by hand from krbfile(1).
-use Rattle.samples.proofs.Cited.{◌≡◌, ◌+◌, ℕ, [], ◌∷◌, map, codes, true, false, None, Some, Ok, Err, refl, Little, most_bytes, Old, Well, CommandPlan, ended_by, node_of, FileName, Word, Default, ErrorWatch, end_status, error_status, save_error, frame, most_frame, held_in, received, needed_time, is_missing, first_talk}
+use Rattle.samples.proofs.Cited.{◌≡◌, ◌+◌, ℕ, [], ◌∷◌, map, codes, true, false, None, Some, Ok, Err, refl, most_bytes, Old, Well, CommandPlan, ended_by, node_of, FileName, Word, Default, ErrorWatch, end_status, error_status, save_error, most_frame, needed_time, is_missing, first_talk}
 use Rattle.krb_wire.specs.declared.format.Order.{Order}
 use Rattle.krb_walk.specs.declared.fault.FaultKind.TheVariants.{CutLength}
 use Rattle.krb_files.specs.declared.aftermath.Aftermath.TheVariants.{Damaged, LostChange, Mixed, Restored}
 use Rattle.krb_files.specs.declared.cause.Cause.TheVariants.{InTheWay}
-use Rattle.krb_files.specs.declared.files.LoadFault.TheVariants.{Missing}
 use Rattle.krb_files.specs.declared.files.SaveFault.TheVariants as save
 use Rattle.krb_files.specs.declared.node.Node.TheVariants.{Nothing, PlainFile, Folder, Unknown}
 use Rattle.krb_files.specs.Bytes.{Watch}
@@ -13,24 +12,18 @@ use Rattle.krb_driver.specs.declared.command.World.{World}
 use Rattle.krb_driver.specs.Commands.{always, of_file}
 use Rattle.krb_driver.specs.Several.{first_round, is_last}
 use Rattle.krb_editors.specs.declared.ccremove.TicketOptions.{TicketOptions}
-use Rattle.krb_editors.specs.declared.hold.last_line.Outcome.TheVariants.{Saved, Left}
-use Rattle.krb_editors.specs.declared.hold.words.HoldKind.TheVariants.{Keytab, Cache}
-use Rattle.krb_editors.specs.HoldEnds.{about_end, ending_of, last_line}
-use Rattle.samples.proofs.Given.{hex, two}
+use Rattle.krb_editors.specs.HoldEnds.{last_line}
 use Rattle.samples.proofs.Unfolded.{on_literals}
 
 -- ---- statuses
 
--- a change of another program that was lost makes a status of 0 a 1
-lost-change : end_status (Ok Well) (Some LostChange) ≡ 1
-lost-change = refl
+-- a change of another program that was lost, or that the file has beside the run's own, makes a status of 0 a 1
+left-behind : map (λ left. end_status (Ok Well) (Some left)) (LostChange ∷ Mixed ∷ Restored ∷ []) ≡ 1 ∷ 1 ∷ 0 ∷ []
+left-behind = refl
 
 -- of several the greatest status counts
 failed-beside-another : end_status (Err error.FileNotWritten) (Some Mixed) ≡ 3
 failed-beside-another = refl
-
-restored : end_status (Ok Well) (Some Restored) ≡ 0
-restored = refl
 
 save-without-memory : error_status (save_error save.NoMemory) ≡ 4
 save-without-memory = refl
@@ -80,42 +73,9 @@ expired-without-clock o is = rw is refl
 
 -- ---- hold
 
--- a missing keytab begins as an empty one of version 2, unless it is to be saved in place
-missing-keytab : held_in (Keytab Little) false (Err Missing) ≡ Ok (hex (codes "0502"))
-missing-keytab = refl
-
-missing-in-place : held_in (Keytab Little) true (Err Missing) ≡ Err (error.NoSuchFile Word)
-missing-in-place = refl
-
-keytab-back : received (Keytab Little) (Ok (frame two)) ≡ Ok (Some two)
-unfolding on_literals
-keytab-back = refl
-
-nothing-back : received Cache (Ok []) ≡ Ok None
-nothing-back = refl
-
-short-back : received Cache (Ok (codes "5\nabc")) ≡ Err error.InputNotWhole
-unfolding on_literals
-short-back = refl
-
--- the length of a record is cut off after two bytes
-damaged-back : received (Keytab Little) (Ok (frame (hex (codes "05020000")))) ≡ Err (error.DamagedInput (record { kind = CutLength; place = 2 }))
-unfolding on_literals
-damaged-back = refl
-
 -- the greatest length has ten digits at most, and a newline after them
 greatest-frame : most_frame ≡ most_bytes + 11
 greatest-frame = refl
-
-input-ends : about_end (codes "k") (Err (codes "input", error.InputNotWhole)) ≡ codes "input"
-input-ends = refl
-
-done-ends : ending_of (Ok Saved) ≡ Ok Well
-done-ends = refl
-
--- the last line says what became of the file
-last-lines : map (last_line 0 None None) (Ok Saved ∷ Ok Left ∷ []) ≡ codes "saved\n" ∷ codes "left\n" ∷ []
-last-lines = refl
 
 -- what the save left comes before all else
 last-left : map (λ left. last_line 3 None (Some left) (Err (codes "k", error.FileNotWritten))) (LostChange ∷ Damaged ∷ Mixed ∷ Restored ∷ [])

@@ -1,5 +1,5 @@
 -- What a run of a command comes to if no call fails: what it prints, how it ends, and its files afterwards.
-use Rattle.samples.proofs.Cited.{◌≡◌, ℕ, ◌+◌, ◌<◌, ◌≤◌, ◌^◌, max, List, [], ◌∷◌, ◌++◌, codes, length, map, fold, Bool, true, false, nat_lt, Option, None, Some, option_and_then, unwrap_or, Result, Ok, Err, if◌then◌else◌, Vec, slice_get, filter_map, flat_map, list_any, arith, refl, name_of, most_bytes, event_in, Any, Newest, Well, CommandPlan, Effect, Fails, Displays, Saves, files_after, ccremove_plan, nat_eq, filter, ◌&&◌, Parts, FileMap, loaded, node_of, etype_in, number_in, seconds_in, none, RunEnd, NothingSelected, FileName, LikePrincipal, Word, Ending, ending_status, ending_text, is_missing, missing_error, is_none, seen_after, ktremove_plan, old_kvno, TalkDue, quiet_run, talk_due}
+use Rattle.samples.proofs.Cited.{◌≡◌, ℕ, ◌+◌, ◌<◌, ◌≤◌, ◌^◌, max, List, [], ◌∷◌, ◌++◌, codes, length, map, fold, Bool, true, false, nat_lt, Option, None, Some, option_and_then, unwrap_or, Result, Ok, Err, if◌then◌else◌, Vec, slice_get, filter_map, flat_map, list_any, arith, refl, name_of, most_bytes, event_in, Any, Newest, Well, CommandPlan, Effect, Fails, Displays, Saves, files_after, ccremove_plan, nat_eq, filter, ◌&&◌, Parts, FileMap, loaded, node_of, etype_in, number_in, seconds_in, none, RunEnd, NothingSelected, FileName, LikePrincipal, Word, Ending, ending_status, ending_text, is_missing, missing_error, is_none, seen_after, ktremove_plan, old_kvno, TalkDue, quiet_run, talk_due, result_map, frame, most_frame, held_in, received}
 use Rattle.std.specs.Str.{bytes_eq}
 use denote.RawPtr.{null_ptr}
 use lib.Dec.{lit<, lit≤}
@@ -14,7 +14,9 @@ use Rattle.krb_driver.specs.declared.verdict.FileKind.{FileKind}
 use Rattle.krb_driver.specs.declared.verdict.FileKind.TheVariants.{Keytab, Cache, Either}
 use Rattle.krb_driver.specs.FileNames.{bare_name, is_other_type}
 use Rattle.krb_driver.specs.Mistakes.{Matched, first_value, printed_name, v1_order}
-use Rattle.krb_driver.specs.Effects.{about, ending_of}
+use Rattle.krb_driver.specs.Commands.{opens}
+use Rattle.krb_driver.specs.Effects.{about, ending_of, saves_unless}
+use Rattle.krb_driver.specs.Loading.{result_map_err}
 use Rattle.krb_readers.specs.Ktcheck.{aged_by, explained_after, findings, plan_of as check_plan}
 use Rattle.krb_readers.specs.declared.ktcheck.words.CheckOptions.{CheckOptions}
 use Rattle.krb_readers.specs.Klist.{file_kind, klist_plan, list_kind, list_options, printed_after, check_of, check_status}
@@ -29,6 +31,10 @@ use Rattle.krb_editors.specs.declared.removing.FilesSeen.{FilesSeen}
 use Rattle.krb_editors.specs.declared.removing.FilesSeen.TheVariants as seen
 use Rattle.krb_editors.specs.Sessions.{lines_in}
 use Rattle.krb_editors.specs.Selecting.{kvno_in}
+use Rattle.krb_editors.specs.Hold.{hold_kind, file_kind as held_file_kind}
+use Rattle.krb_editors.specs.HoldEnds.{HoldEnd, about_end, ending_of as end_of_hold, last_line}
+use Rattle.krb_editors.specs.declared.hold.last_line.Outcome.TheVariants.{Saved, Left}
+use Rattle.krb_editors.specs.declared.hold.words.HoldKind.{HoldKind}
 use Rattle.krb_ktutil.specs.declared.ktutil.awaiting.Awaiting.TheVariants.{Nothing}
 use Rattle.krb_ktutil.specs.InputLines.{lines_of}
 
@@ -276,6 +282,31 @@ ktdiff explains files ws = follows explains files (ktdiff_plan (record {
   selection = selection Any ws;
   v1_order = v1_order ws;
 }) (named false Keytab (ws.operand (codes "A"))) (named false Keytab (ws.operand (codes "B"))))
+
+-- what hold does with a file by the image in it and by what the input gives
+abbrev exchanged : List ℕ → List ℕ → Result (Option (List ℕ)) RunError → Effect
+exchanged file image (Ok given) = saves_unless (bytes_eq (unwrap_or given image) image) file (unwrap_or given image) (frame image) Well
+exchanged file image (Err why) = Displays (codes "input") (record { out = frame image; ending = Err why; takes = false })
+
+-- how it says that it ended
+abbrev hold_end : Effect → HoldEnd
+hold_end (Fails file why) = Err (file, why)
+hold_end (Displays file page) = result_map_err (λ why. (file, why)) (result_map (λ verdict. Left) page.ending)
+hold_end (Saves file bytes out verdict) = Ok Saved
+
+-- a run of hold that comes to that with a file
+abbrev exchanges : Bool → FileMap → List ℕ → Effect → Seen
+exchanges explains files file effect =
+    let end = hold_end effect in
+    let run = ends explains (output effect) (about_end file end) (end_of_hold end) (files_after files effect) in
+    record run { out = run.out ++ last_line run.status None None end }
+
+-- with that input
+abbrev pub hold : Bool → FileMap → List ℕ → Matched → Seen
+hold explains files input ws = over_file (hold_kind ws) (operand ws (held_file_kind (hold_kind ws)) (codes "FILE")) where
+  over_file : HoldKind → FileName → Seen
+  over_file kind file =
+      exchanges explains files file.name.now (follow files (opens file (held_in kind file.in_place) (λ image. Ends (exchanged file.name.now image (received kind (loaded (Some input) most_frame))))))
 
 -- the lines of an input at a second, without prompts
 abbrev pub ktutil : Bool → ℕ → FileMap → List ℕ → Matched → Seen
