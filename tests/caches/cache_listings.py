@@ -4,7 +4,7 @@ from dataclasses import replace
 from functools import partial
 
 from keytabs.listings import KNOWN_TIMES
-from makers.images import FLAGS, TICKET, USUAL, Name, cache, config, header_field, offset
+from makers.images import FLAGS, TICKET, USUAL, VERSION_3, Name, cache, config, header_field, offset
 from runs.harness import Case, Outcome, message, over
 
 BREAKS = ("crates/krb_readers/src/klist.rt", "crates/krb_cache_text", "crates/krb_ccache")
@@ -59,7 +59,8 @@ CASES = [
          *(line for letters in LETTERS.values() for line in (TICKET_LINE, b"    Flags: " + letters)), columns="f"),
     case("known times", cache(*(replace(TICKET, starttime=at, endtime=at, renew_till=at) for at in TIMED)),
          *(line for text in TIMED.values()
-           for line in (text + b" " + text + b" krbtgt/R@R", b"    renew until " + text))),
+           for line in (text + b" " + text + b" krbtgt/R@R", b"    renew until " + text, ADDED["f"])), columns="f"),
+    case("the first type of version 3", VERSION_3, TICKET_LINE, ADDED["e"], columns="e"),
     # How a key, a principal and a value are escaped.
     case("each byte of a value", cache(config(BYTES, BYTES, BYTES)),
          b"config: " + ESCAPED + b"(" + ESCAPED + b") = " + ESCAPED, columns="C"),

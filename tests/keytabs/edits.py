@@ -43,6 +43,9 @@ FAULTS = LINE_FAULTS | by_line({
     "add x y z 0 b": 3, "add 3 y z 0 b": 4, "add 3 17 z 0 b": 3, "add 3 17 0 0 b": 5,
 }
 
+NUMBERS = (*range(201), 2**32 - 1)
+RESUMES = [f"resume {it}" for it in NUMBERS]  # a walk begins at a cell, or at the end
+
 DAMAGED = keytab(HOST, record(bytes(10)), B)  # a bad entry between two good ones
 MOST = keytab(Entry((b"",) * 65_535))  # an entry of the most components, all empty
 
@@ -61,6 +64,11 @@ def edit(name: str, image: bytes | None, script: bytes | list[str], wanted: Outc
          after: bytes | None = None) -> Case:
     """Returns a script of `ktedit` over the file `k`, or over none; see `over`."""
     return over(name, "ktedit k", image, wanted, after, script)
+
+
+def begun(*places: int) -> list[str]:
+    """Returns the replies to RESUMES over a file whose cells are at these places."""
+    return [f"walk {places.index(it)} at {it}" if it in places else "refused 4" for it in NUMBERS]
 
 
 def faulty_lines(edit: Callable[..., Case], image: bytes, cut: str, faults: dict[str, int]) -> list[Case]:
@@ -83,18 +91,31 @@ CASES = [
     edit("into a hole and at the end", keytab(*(hole(b"\xff" * size) for size in (20, 47, 41))), [ADD_B, ADD_HOST],
          ["placed 26", "placed 122"],
          keytab(hole(b"\xff" * 20), record(B.spelled() + bytes(6)), hole(b"\xff" * 41), HOST)),
-    edit("at an end mark", keytab(HOST, END, b"\xff" * 20), [ADD_B], ["placed 53"], TWO + END),
+    *(edit(f"at an end mark before {size} bytes", keytab(HOST, END, b"\xff" * size), ["start", *["step 0"] * 2, ADD_B],
+           ["walk 0 at 2", gave(0, 2, 53, "host/a@R"), "walk 0 end 53", "placed 53"], TWO + END) for size in (20, 50)),
     edit("a version of more than 8 bits", keytab(), [ADD_B.replace(" 3 ", " 300 ", 1)], ["placed 2"],
          keytab(replace(B, version8=44, version32=300))),
     edit("into version 1", old(), [ADD_HOST], ["placed 2"], old(HOST)),
-    edit("version 1 becomes 2", old(HOST), ["rewrite"], ["rewritten 53"], keytab(replace(HOST, name_type=0))),
+    edit("version 1 becomes 2", old(HOST), ["start", "step 0", "rewrite", "step 0"],
+         ["walk 0 at 2", gave(0, 2, 49, "host/a@R"), "rewritten 53", "walk 0 end 53"],
+         keytab(replace(HOST, name_type=0))),
     edit("no records to remove", TWO, ["cut 3", "cut 2", "cut 2"], refused("refused 5", "gone 2", "refused 5"),
          keytab(47, B)),
-    edit("a damaged keytab", keytab(HOST, B, b"\0\0"), [ADD_B, "cut 2", "rewrite", "resume 98", "step 0", "step 0"],
-         refused(*["refused 1"] * 3, "walk 0 at 98", *["walk 0 fault 1 at 98"] * 2)),
-    # A walk begins at a cell or at the end. Only walk 1 has yet to pass the place to which c@R comes.
-    edit("places of walks", TWO, ["resume 54", "resume 4294967295", "resume 53", "resume 98", "step 1", "step 2"],
-         refused("refused 4", "refused 4", "walk 0 at 53", "walk 1 at 98", "walk 1 end 98", "refused 6")),
+    edit("a damaged keytab", DAMAGED, [*RESUMES, *["step 0"] * 3, "step 1", ADD_B, "cut 2", "rewrite"],
+         refused(*begun(2, 53), gave(0, 2, 53, "host/a@R"), *["walk 0 fault 3 at 53"] * 2, "walk 1 fault 3 at 53",
+                 *["refused 1"] * 3)),
+    edit("nothing to save makes no file", None, ["start"], ["walk 0 at 2"]),
+    # A walk goes on in the next run, and also over what comes at its cursor.
+    edit("places of walks", TWO, [*RESUMES, "step 2", "step 3", "cut 2"],
+         refused(*begun(2, 53, 98), "walk 2 end 98", "refused 6", "gone 2"), keytab(47, B)),
+    edit("a walk goes on", keytab(47, B), ["resume 53", "step 0"], ["walk 0 at 53", gave(0, 53, 98, "b@R")]),
+    edit("a walk goes on over changes", TWO, ["cut 53", ADD_C, "resume 53", "step 0", "step 0"],
+         ["gone 53", "placed 53", "walk 0 at 53", gave(0, 53, 98, "c@R"), "walk 0 end 98"], keytab(HOST, C)),
+    # Only walk 1 has yet to pass the place to which something comes.
+    edit("the same entry again, behind a walk", TWO,
+         ["start", "step 0", "cut 2", ADD_HOST, "step 0", "step 0", "start", "step 1"],
+         ["walk 0 at 2", gave(0, 2, 53, "host/a@R"), "gone 2", "placed 2", gave(0, 53, 98, "b@R"), "walk 0 end 98",
+          "walk 1 at 2", gave(1, 2, 53, "host/a@R")]),
     edit("walks over changes", TWO,
          ["start", "step 0", "start", "cut 2", ADD_C, "step 1", "step 0", "step 0", ADD_HOST, "step 0"],
          ["walk 0 at 2", gave(0, 2, 53, "host/a@R"), "walk 1 at 2", "gone 2", "placed 2", gave(1, 2, 53, "c@R"),

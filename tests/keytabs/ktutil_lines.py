@@ -1,6 +1,6 @@
 """Lines of `ktutil`: what they print and save, and their errors, all written by hand."""
 
-from keytabs.edits import by_line
+from keytabs.edits import DAMAGED, by_line
 from keytabs.file_names import LIMIT
 from makers.images import B, HOST, TWO, Entry, keytab
 from runs.harness import Case, Outcome, text
@@ -78,8 +78,9 @@ CASES = [
     lines("after too long a name nothing is saved",
           [ADDENT, KEY, f"addent -key -p {'x' * 65_536}@R -k 3 -e 17", KEY, "wkt k"], [], "line 5: refused 2"),
     # Files that are not read or written.
-    lines("messages in the order of the lines", ["frob", "rkt a\\b", "delent 1", "rkt .", "l"], HEADING,
-          "line 1: fault 1", "a\\b: no such file", "line 3: fault 7", ".: cannot read", status=3),
+    lines("messages in the order of the lines", ["frob", "rkt a\\b", "delent 1", "rkt .", "rkt d", "l"], HEADING,
+          "line 1: fault 1", "a\\b: no such file", "line 3: fault 7", ".: cannot read", "line 5: refused 1",
+          files={"d": DAMAGED}, status=3),
     lines("to no keytab", ["rkt j", "wkt k"], [], "k: not a keytab (2)", files={"k": b"\x05\x03", "j": TWO}),
     lines("no folder", ["rkt k", "wkt d/k", "l"], TWO_LISTED, "d/k: cannot write", files=FILES, status=3),
     # An input that is too large: the lines within the limit are handled.

@@ -4,7 +4,7 @@ layout. And texts in JSON: Python reads each as it is, and one that is no UTF-8 
 import json
 from dataclasses import replace
 
-from makers.images import BIG, END, HOST, LITTLE, B, Entry, cache, config, hole, keytab, old, record
+from makers.images import END, HOST, LITTLE, B, Entry, cache, config, hole, keytab, old, record
 from runs.harness import Case, Outcome, Report, message, over
 from runs.undisturbed import undisturbed
 
@@ -83,7 +83,8 @@ CASES = [
         record(replace(HOST, version8=7, version32=None).spelled() + rest)
         for rest in (b"", b"\0\0\1", b"\0\0\0\0", b"\0\0\1\0"))), *[b"   7 host/a@R"] * 3, b" 256 host/a@R"),
     case("a count of 0 in version 1", old(record(bytes(17), LITTLE)), b"fault 3 at 2"),
-    case("version 1 in the other order", old(HOST, order=BIG), b"fault 2 at 2"),
+    case("version 1", old(HOST), HOST_LINE),
+    case("version 1 in the other order", old(HOST), b"fault 2 at 2", letters=" --v1-big"),
     *(over(f"no keytab: {image}", "klist -k k", image, message(1, f"k: not a keytab ({number})"))
       for image, number in ((b"\5", 1), (b"\4\2", 2), (b"\5\3", 2))),
     # All enctypes, with the names of those that have one.

@@ -10,7 +10,7 @@ from caches.overviews import summary
 from caches.valid_tickets import TICKETS, ask
 from keytabs.ktutil_lines import ADDENT, KEY, TIMES
 from keytabs.removals import FOUR, X, versioned
-from makers.images import OFFSET, PA_TYPE, TICKET, USUAL, cache, keytab, offset
+from makers.images import HOST, OFFSET, PA_TYPE, TICKET, USUAL, cache, keytab, offset
 from runs.harness import BAD_LINE, Case, Outcome, Report, message, over, printed, text, with_mode, words_of
 from runs.system_calls import preloaded
 from words.phrases import CLOCK
@@ -19,14 +19,15 @@ BREAKS = ("crates/krb_audit/src/young.rt", "crates/krb_text/src/time.rt", "crate
 
 Row = tuple[Case, dict[str, int]]  # a run, and the settings of its clock
 
-# Settings of the clock, and the time that is listed: 0 if the seconds do not fit 32 bits.
+UNREAD = ({"CLOCK": 2**32}, {"CLOCK": 2**64 - 1}, {"FAIL_CLOCK": 1})  # clocks that cannot be read as seconds of 32 bits
+
+# Settings of the clock, the time that ktutil saves then, and how it is listed.
 KNOWN = [
-    ({"CLOCK": 1_700_000_000}, "2023-11-14T22:13:20Z"), ({"CLOCK": 2**32 - 1}, "2106-02-07T06:28:15Z"),
-    ({"CLOCK": 2**32}, "1970-01-01T00:00:00Z"), ({"CLOCK": 2**64 - 1}, "1970-01-01T00:00:00Z"),
-    ({"FAIL_CLOCK": 1}, "1970-01-01T00:00:00Z"),
+    ({"CLOCK": 1_700_000_000}, 1_700_000_000, "2023-11-14T22:13:20Z"),
+    ({"CLOCK": 2**32 - 1}, 2**32 - 1, "2106-02-07T06:28:15Z"),
+    *((setting, 0, "1970-01-01T00:00:00Z") for setting in UNREAD),
 ]
 
-UNREAD = ({"CLOCK": 2**32}, {"CLOCK": 2**64 - 1}, {"FAIL_CLOCK": 1})  # clocks that cannot be read as seconds of 32 bits
 NO_CLOCK = message(3, "cannot read the clock")
 EXPLAINED = Outcome(3, err=NO_CLOCK.err + f"krbfile: {CLOCK}\n".encode())
 
@@ -137,10 +138,10 @@ def once() -> Iterator[Row]:
 
 
 def known() -> Iterator[Row]:
-    """Yields lines of ktutil that add an entry of the time of the clock, and list it."""
-    for setting, time in KNOWN:
+    """Yields lines of ktutil that add an entry of the time of the clock, list it and save it."""
+    for setting, seconds, time in KNOWN:
         yield over(f"the clock with {setting}", "ktutil", None, [*TIMES, f"   1    3 {time} host/a@R"],
-                   given=[ADDENT, KEY, "l -t"]), setting
+                   keytab(replace(HOST, timestamp=seconds)), [ADDENT, KEY, "l -t", "wkt ktutil"]), setting
 
 
 # Those at the second in which a ticket ends or an entry is as old as is asked, and at the second before.
