@@ -6,7 +6,8 @@ from functools import partial
 
 from clients import python_files
 from keytabs.listings import BY_NAME, KEY_SIZES
-from makers.images import B, PA_TYPE, TICKET, TWO, Credential, Entry, Name, cache, config, keytab
+from keytabs.removals import AES256, FIVE
+from makers.images import (HOST, OFFSET, TWO, USUAL, VERSION_3, B, Credential, Entry, Name, cache, config, keytab, old)
 from pages.readme import no_library, surroundings
 from runs.harness import Outcome, Report, every, folder_of, run, text
 from words.phrases import LIBRARY_CODES, SHORT, code
@@ -43,7 +44,7 @@ def at_once(runs):
 image = sys.stdin.buffer.read()
 """
 
-KEYTABS = """
+KEYTABS = f"""
 with Keytab.open(image) as keytab:
     print([(entry.place, entry.principal, entry.kvno, entry.enctype) for entry in keytab])
     host = keytab.find("host/a@R")
@@ -60,14 +61,16 @@ with Keytab.open(image) as keytab:
 keytab.close()
 print(raised_by(lambda: keytab.image), raised_by(lambda: Keytab.open(b"5")), sep="; ")
 print([raised_by(lambda: Keytab.open(it, limit=2)).split()[1] for it in (b"", bytes([5, 3]), bytes([4, 2]), image[:3])])
-for damaged in map(Keytab.open, (image[:54], image[:60], image[:6] + bytes([255] * 2) + image[8:])):
-    seen = []
-    print(raised_by(lambda: [seen.append(entry.place) for entry in damaged]).split()[1], seen, damaged.fault)
 print(Keytab.open(image, v1_big=True, limit=98).image == image)
+full, three = Keytab.open({old(HOST)}, limit=49), Keytab.open({keytab(HOST, AES256, FIVE)})
+walk = iter(full)
+print(next(walk).place, raised_by(lambda: full.rewrite([49])), [*walk], full.image == {old(HOST)})
+for _ in range(3):
+    print(raised_by(lambda: (place := three.find("host/a@R", 0, 17).place, three.remove_at(place))[0]))
 print(len(Keytab.create().image), after.hex())
 """
 
-CACHES = """
+CACHES = f"""
 with Cache.open(image) as cache:
     first, second = cache
     print(cache.principal, first.server, first.client, second.is_config, first.place, second.place)
@@ -79,15 +82,42 @@ with Cache.open(image) as cache:
         cache.find("none@R")
     except LookupError as error:
         print(error)
-    other = replace(first, second_ticket=b"2", is_skey=True)
+    print(cache.set_config("pa_type", b"3", "krbtgt/R@R"), cache.config("pa_type", "krbtgt/R@R"))
+    other, removed = replace(first, second_ticket=b"2", is_skey=True), replace(first, authtime=2**32 - 1, endtime=0)
     place = cache.store(replace(other, server=b"host/a@R"))
-    print(place, replace(cache.find(b"host/a@R"), place=22, server="krbtgt/R@R") == other)
-    cache.set_config("pa_type", b"3", "krbtgt/R@R")
+    print(place, replace(cache.find(b"host/a@R"), place=40, server="krbtgt/R@R") == other)
+    print(raised_by(lambda: cache.store(removed)))
     cache.remove_at(first.place)
     print(cache.rewrite([first.place, place]), cache.fault)
     print([ticket.server for ticket in cache if not ticket.is_config], cache.image.hex())
+print(Cache.open(image).rewrite([40, 148, 284, 392]))
+full = Cache.open(image, limit=392)
+print(raised_by(lambda: full.set_config("pa_type", b"3", "krbtgt/R@R")), full.config("pa_type", "krbtgt/R@R"))
+for old in map(Cache.open, ({VERSION_3}, {VERSION_3[:129]})):
+    calls = (lambda: old.store(first), lambda: old.store(removed), lambda: old.remove_at(20), lambda: old.remove_at(3),
+             lambda: old.set_config("pa_type", b"3", "krbtgt/R@R"))
+    print(old.fault, *{{raised_by(call) for call in calls}}, len(old.image))
 with Cache.create("a@R", limit=30) as made:
     print(raised_by(lambda: made.store(first)), made.image.hex())
+"""
+
+# What opens of the first bytes of a keytab and of a cache, of an entry cut to each length, with a count or a length that
+# is too large, and of few bytes: how many of these in turn have the same fault, places and status.
+CUT = """
+from itertools import groupby
+
+def seen(kind, image):
+    store, places = raised_by(lambda: kind.open(image)), []
+    end = raised_by(lambda: places.extend(it.place for it in store))
+    return store[13:15] if isinstance(store, str) else [*places, end and (*store.fault, end[13:15])]
+
+keytab, cache = image[:98], image[98:]
+for kind, images in (
+        (Keytab, [keytab[:end] for end in range(99)]), (Cache, [cache[:end] for end in range(393)]),
+        (Keytab, [keytab[:2] + end.to_bytes(4, "big") + keytab[6:6 + end] for end in range(1, 48)]),
+        (Keytab, [keytab[:at] + bytes([255] * 2) + keytab[at + 2:] for at in (6, 8, 31)]),
+        (Cache, [cache[:129] + bytes([255] * 4) + cache[133:], bytes([5, 2]), bytes([5, 3]), bytes([5, 4, 0, 0])])):
+    print(*(f"{len([*those])}: {same}" for same, those in groupby(seen(kind, it) for it in images)), sep=", ")
 """
 
 # Values that do not fit or are of another type, and for each row of calls with one of them what these raise.
@@ -204,23 +234,32 @@ print([what for what in (entry, ticket, keytab, cache) if "secret" in repr(what)
 """
 
 # The keytab and the cache that the first two scripts leave. HOST has 51 bytes, B 45: c@R takes the place of HOST.
-# The ticket is at 22, the value at 130.
 KEYTAB_AFTER = keytab(Entry((b"c",), key=bytes(16), version8=7, version32=7, timestamp=5), B)
-CACHE_AFTER = cache(Credential(server=Name((b"host", b"a")), is_skey=1, second_ticket=b"2"),
-                    config(b"pa_type", b"3", b"krbtgt/R@R"))
+CACHE_AFTER = cache(config(b"pa_type", b"3", b"krbtgt/R@R"),
+                    Credential(server=Name((b"host", b"a")), is_skey=1, second_ticket=b"2"), fields=OFFSET)
 
 SCRIPTS: tuple[Script, ...] = (
     ("keytabs", KEYTABS, TWO, [
         "[(2, 'host/a@R', 3, 17), (53, 'b@R', 3, 17)]", "R ('host', 'a') 1 1700000000 True", "2 ['b@R']",
         "[2, 47] None", "KrbfileError 21 no realm", f"NotFound 39 d@R: {code(9)}", f"NotFound 40 c@R: {code(10)}",
         f"KrbfileError 35 {LIBRARY_CODES[5]}", f"ValueError: it is closed; KrbfileError 11 {SHORT[1]}",
-        "['11', '12', '12', '13']", "31 [2] (1, 53)", "31 [2] (2, 53)", "31 [] (3, 2)", "True",
-        f"2 {KEYTAB_AFTER.hex()}",
+        "['11', '12', '12', '13']", "True", f"2 KrbfileError 33 {LIBRARY_CODES[3]} [] True",
+        "120", "2", f"NotFound 39 host/a@R: {code(9)}", f"2 {KEYTAB_AFTER.hex()}",
     ]),
-    ("caches", CACHES, cache(TICKET, PA_TYPE), [
-        "u@R krbtgt/R@R u@R True 22 130", "17 1700000000 0 1700036000 0 0x40e00000", "True b'tkt' b'' False",
-        "b'2' None", "True", f"none@R: {code(9)}", "266 True", "[22, 22] None", f"['host/a@R'] {CACHE_AFTER.hex()}",
+    ("caches", CACHES, USUAL, [
+        "u@R krbtgt/R@R u@R True 40 148", "17 1700000000 0 1700036000 0 0x40e00000", "True b'tkt' b'' False",
+        "b'2' None", "True", f"none@R: {code(9)}", "392 b'3'", "528 True", f"KrbfileError 41 {LIBRARY_CODES[11]}",
+        "[34, 170] None", f"['host/a@R'] {CACHE_AFTER.hex()}", "[34, 142, 278, 278]",
+        f"KrbfileError 33 {LIBRARY_CODES[3]} b'2'", f"None KrbfileError 38 {LIBRARY_CODES[8]} 130",
+        f"(4, 20) KrbfileError 38 {LIBRARY_CODES[8]} 129",
         f"KrbfileError 33 {LIBRARY_CODES[3]} {cache(default=Name((b'a',))).hex()}",
+    ]),
+    ("cut and damaged images", CUT, TWO + USUAL, [
+        "2: 11, 1: [None], 3: [(1, 2, '31')], 47: [(2, 2, '31')], 1: [2, None], 3: [2, (1, 53, '31')], "
+        "41: [2, (2, 53, '31')], 1: [2, 53, None]",
+        "2: 11, 20: 14, 18: 15, 1: [None], 107: [(4, 40, '31')], 1: [40, None], 135: [40, (4, 148, '31')], "
+        "1: [40, 148, None], 107: [40, 148, (4, 284, '31')], 1: [40, 148, None]",
+        "42: [(3, 2, '31')], 5: [2, None]", "3: [(3, 2, '31')]", "1: [(4, 40, '31')], 1: 12, 2: 15",
     ]),
     ("names and keys", TEXTS, b"", [
         *2 * [r"'a\udcff/\xe9@R\udcfe' 'R\udcfe' ('a\udcff', '\xe9')", "True True", "b'value'"],
