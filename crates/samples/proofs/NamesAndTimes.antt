@@ -8,72 +8,43 @@ use Rattle.samples.proofs.Unfolded.{on_literals}
 
 -- ---- names
 
--- `/` separates components, and `@` begins the realm
-plain : name_of (codes "host/a@R") None
+-- `/` separates components, and `@` begins the realm; components may be empty, and so may the realm
+parts : map (λ text. name_of text None) (codes "host/a@R" ∷ codes "a//@" ∷ codes "@R" ∷ [])
     ≡ Ok (record { name_type = 1; realm = codes "R"; components = codes "host" ∷ codes "a" ∷ [] })
+    ∷ Ok (record { name_type = 1; realm = []; components = codes "a" ∷ [] ∷ [] ∷ [] }) ∷ Ok (record { name_type = 1; realm = codes "R"; components = [] ∷ [] }) ∷ []
 unfolding on_literals
-plain = refl
+parts = refl
 
--- a backslash quotes the byte after it, and `\n`, `\t`, `\b` and `\0` are newline, tab, backspace and NUL
-quoted : name_of (codes "a\\/b\\@c\\\\\\n\\0@R\\/S\\@T") None
-    ≡ Ok (record { name_type = 1; realm = codes "R/S@T"; components = hex (codes "612f6240635c0a00") ∷ [] })
+-- a backslash quotes the byte after it, and `\n`, `\t`, `\b` and `\0` are newline, tab, backspace and NUL; a name prints with the same quotes
+quoted : (name_of (codes "a\\/b\\@c\\\\\\n\\0@R\\/S\\@T") None ≡ Ok (record { name_type = 1; realm = codes "R/S@T"; components = hex (codes "612f6240635c0a00") ∷ [] }))
+    × (name_text (name (codes "a\\/b\\@c\\\\\\n\\0@R\\/S\\@T")) ≡ codes "a\\/b\\@c\\\\\\n\\0@R\\/S\\@T")
 unfolding on_literals
-quoted = refl
-
--- a name prints with the same quotes
-printed : name_text (name (codes "a\\/b\\@c\\\\\\n\\0@R\\/S\\@T")) ≡ codes "a\\/b\\@c\\\\\\n\\0@R\\/S\\@T"
-unfolding on_literals
-printed = refl
-
--- components may be empty, and so may the realm
-empty : name_of (codes "a//@") None
-    ≡ Ok (record { name_type = 1; realm = []; components = codes "a" ∷ [] ∷ [] ∷ [] })
-unfolding on_literals
-empty = refl
+quoted = (refl, refl)
 
 -- without `@` the realm is the default one
-default-realm : name_of (codes "a") (Some (codes "R"))
-    ≡ Ok (record { name_type = 1; realm = codes "R"; components = codes "a" ∷ [] })
+default-realm : map (λ text. name_of text (Some (codes "R"))) (codes "a" ∷ [] ∷ [])
+    ≡ Ok (record { name_type = 1; realm = codes "R"; components = codes "a" ∷ [] }) ∷ Ok (record { name_type = 1; realm = codes "R"; components = [] ∷ [] }) ∷ []
 unfolding on_literals
 default-realm = refl
 
--- without `@` and without a default realm a text is no name
-no-realm : name_of (codes "a") None ≡ Err NoRealm
+-- faults are no `@` and no default realm, a backslash at the end, a second `@` and a `/` in the realm; of several the one furthest left counts
+name-faults : map (λ text. name_of text None) (codes "a" ∷ codes "a\\" ∷ codes "a@b@c/\\" ∷ codes "a@b/c" ∷ [])
+    ≡ Err NoRealm ∷ Err LoneBackslash ∷ Err SecondAt ∷ Err SlashInRealm ∷ []
 unfolding on_literals
-no-realm = refl
-
--- a backslash at the end quotes nothing: a fault
-lone-backslash : name_of (codes "a\\") None ≡ Err LoneBackslash
-unfolding on_literals
-lone-backslash = refl
-
--- a second `@` is a fault; of several faults the one furthest left counts
-second-at : name_of (codes "a@b@c/\\") None ≡ Err SecondAt
-unfolding on_literals
-second-at = refl
-
--- a `/` in the realm is a fault
-slash-in-realm : name_of (codes "a@b/c") None ≡ Err SlashInRealm
-unfolding on_literals
-slash-in-realm = refl
+name-faults = refl
 
 -- ---- encryption types, by IANA's numbers and MIT's names
 
--- the first of a type's names is printed; any is read, in either case of letters, and so is the number
-etype : (etype_text_of 23 ≡ codes "arcfour-hmac") × (etype_in (codes "RC4-hmac") ≡ Some 23) × (etype_in (codes "23") ≡ Some 23)
+-- the first of a type's names is printed, or its number; any is read, in either case of letters, and so is the number
+etype : (map etype_text_of (23 ∷ 65535 ∷ []) ≡ codes "arcfour-hmac" ∷ codes "etype 65535" ∷ []) × (map etype_in (codes "RC4-hmac" ∷ codes "23" ∷ []) ≡ Some 23 ∷ Some 23 ∷ [])
 unfolding on_literals
-etype = (refl, refl, refl)
+etype = (refl, refl)
 
 -- all names that are read, which MIT's programs read too
 etype-names : map etype_in (pieces 32 (codes "des3-cbc-sha1 des3-hmac-sha1 des3-cbc-sha1-kd aes128-cts-hmac-sha1-96 aes128-cts aes128-sha1 aes256-cts-hmac-sha1-96 aes256-cts aes256-sha1 aes128-cts-hmac-sha256-128 aes128-sha2 aes256-cts-hmac-sha384-192 aes256-sha2 arcfour-hmac rc4-hmac arcfour-hmac-md5 camellia128-cts-cmac camellia128-cts camellia256-cts-cmac camellia256-cts"))
     ≡ Some 16 ∷ Some 16 ∷ Some 16 ∷ Some 17 ∷ Some 17 ∷ Some 17 ∷ Some 18 ∷ Some 18 ∷ Some 18 ∷ Some 19 ∷ Some 19 ∷ Some 20 ∷ Some 20 ∷ Some 23 ∷ Some 23 ∷ Some 23 ∷ Some 25 ∷ Some 25 ∷ Some 26 ∷ Some 26 ∷ []
 unfolding on_literals
 etype-names = refl
-
--- a type without a name prints as its number
-etype-number : etype_text_of 65535 ≡ codes "etype 65535"
-unfolding on_literals
-etype-number = refl
 
 -- the sizes of keys in bytes (RFC 3961, 3962, 8009, 4757, 6803)
 key-size : filter_map key_size_of (16 ∷ 17 ∷ 18 ∷ 19 ∷ 20 ∷ 23 ∷ 25 ∷ 26 ∷ [])

@@ -1,14 +1,16 @@
 -- What files of a few bytes do not show of keytabs and caches, and what the library alone does.
-use Rattle.samples.proofs.Cited.{◌≡◌, [], ◌∷◌, ◌++◌, codes, replicate, map, Some, None, option_map, Ok, Err, true, false, pos, negsuc, refl, V2, Little, open_result, most_bytes, result_map_both, result_ok, start_reply, Started, Placed, Refused, create_result}
-use Rattle.krb_walk.specs.declared.event.Event.TheVariants.{Put}
-use Rattle.krb_walk.specs.declared.refusal.Code.TheVariants.{TooManyWalks, Marked}
+use Rattle.samples.proofs.Cited.{◌≡◌, ℕ, List, [], ◌∷◌, ◌++◌, codes, replicate, map, Some, None, option_map, Ok, Err, true, false, pos, negsuc, refl, V2, Little, open_result, most_bytes, result_map_both, result_ok, start_reply, Started, Placed, Refused, create_result}
+use Rattle.krb_walk.specs.declared.event.Event.TheVariants.{Start, Resume, Step, Put, Cut}
+use Rattle.krb_walk.specs.declared.refusal.Code.TheVariants.{TooManyWalks, Marked, NotAPlace, NotLive}
+use Rattle.krb_walk.specs.ReplyContent.{Gave, Ended, Gone}
 use Rattle.krb_keytab.specs.declared.open.KtOpenFault.TheVariants.{TooLarge}
-use Rattle.krb_keytab.specs.Changes.{put_result, is_refused}
+use Rattle.krb_keytab.specs.Changes.{put_result, is_refused, takes_none}
+use Rattle.krb_keytab.specs.Entry.{EntryParts}
 use Rattle.krb_keytab.specs.Form.{fits}
 use Rattle.krb_ccache.specs.Config.{config_of}
 use Rattle.krb_ccache.specs.Header.{offset_in}
 use Rattle.krb_ccache.specs.Store.{image_of as cache_image}
-use Rattle.samples.proofs.Given.{hex, cache, name, cache_left, cache_replies, host, front, ticket, pa_type, worked}
+use Rattle.samples.proofs.Given.{hex, keytab, cache, name, cache_replies, host, front, ticket, pa_type, removed, worked}
 use Rattle.samples.proofs.Unfolded.{on_literals}
 
 -- ---- limits
@@ -18,11 +20,22 @@ too-large : open_result Little 2 (hex (codes "050200")) ≡ Err TooLarge
 unfolding on_literals
 too-large = refl
 
--- an addition is refused if the image would be longer than the limit, and not if it would be as long
-full : map (λ limit. option_map (λ k. is_refused (put_result k (record { principal = name (codes "b@R"); timestamp = 0; version = 1; enctype = 17; key = replicate 16 0 }))) (result_ok (open_result Little limit (hex (codes "0502") ++ host)))) (97 ∷ 98 ∷ [])
-    ≡ Some true ∷ Some false ∷ []
+-- the entry of `b`
+abbrev entry : EntryParts
+entry = record { principal = name (codes "b@R"); timestamp = 1700000000; version = 3; enctype = 17; key = hex (codes "101112131415161718191a1b1c1d1e1f") }
+
+-- an addition is refused if the image would be longer than the limit, and not if it would be as long: alone, after an entry, and at an end mark
+full : map {A = ℕ × List ℕ} (λ x. option_map (λ k. is_refused (put_result k entry)) (result_ok (open_result Little x.0 (hex (codes "0502") ++ x.1))))
+    ((46, []) ∷ (47, []) ∷ (97, host) ∷ (98, host) ∷ (50, replicate 4 0) ∷ (51, replicate 4 0) ∷ [])
+    ≡ Some true ∷ Some false ∷ Some true ∷ Some false ∷ Some true ∷ Some false ∷ []
 unfolding on_literals
 full = refl
+
+-- it takes no memory if a hole takes it, or if the image does not become longer, since what is behind an end mark goes
+no-growth : map (λ rest. takes_none (keytab (hex (codes "0502") ++ rest)) entry) ([] ∷ (hex (codes "ffffffd1") ++ replicate 47 0) ∷ (replicate 4 0 ++ replicate 45 255) ∷ (host ++ (replicate 4 0 ++ replicate 45 255)) ∷ [])
+    ≡ false ∷ true ∷ true ∷ true ∷ []
+unfolding on_literals
+no-growth = refl
 
 -- a key of 65,536 bytes is too long, and so is a realm or a component
 too-long : map (λ n. fits V2 (record { principal = name (codes "b@R"); timestamp = 0; version = 1; enctype = 17; key = replicate n 0 })) (65535 ∷ 65536 ∷ [])
@@ -43,32 +56,20 @@ offset : offset_in (cache worked).header
 unfolding on_literals
 offset = refl
 
--- a value is found by its key and its principal
-value : config_of (cache worked) (codes "pa_type") (Some (codes "krbtgt/R@R"))
-    ≡ Some (codes "2")
+-- a value is found by its key and its principal, and not by its key alone
+value : map (config_of (cache worked) (codes "pa_type")) (Some (codes "krbtgt/R@R") ∷ None ∷ [])
+    ≡ Some (codes "2") ∷ None ∷ []
 unfolding on_literals
 value = refl
 
--- the value for a principal is not found by its key alone
-value-none : config_of (cache worked) (codes "pa_type") None
-    ≡ None
+-- a walk that is at the end gives what is appended then; none is appended with the removed mark; a walk begins at a removed one, not within it
+walked : cache_replies worked (Start ∷ Step 0 ∷ Step 0 ∷ Cut 40 ∷ Step 0 ∷ (map Put (cache (front ++ (ticket ++ removed))).contents.cells ++ (Step 0 ∷ Resume 285 ∷ Resume 284 ∷ Step 1 ∷ Cut 284 ∷ [])))
+    ≡ Started 0 40 ∷ Gave 0 40 148 ticket ∷ Gave 0 148 284 pa_type ∷ Gone 40 ∷ Ended 0 392 ∷ Placed 392 ∷ Refused Marked ∷ Gave 0 392 500 ticket ∷ Refused NotAPlace ∷ Started 1 284 ∷ Gave 1 392 500 ticket ∷ Refused NotLive ∷ []
 unfolding on_literals
-value-none = refl
+walked = refl
 
--- a credential is appended, but not one with the removed mark
-stored : cache_replies front (map Put (cache worked).contents.cells)
-    ≡ Placed 40 ∷ Placed 148 ∷ Refused Marked ∷ []
-unfolding on_literals
-stored = refl
-
--- it is appended as it was written
-stored-bytes : cache_left front (map Put (cache worked).contents.cells)
-    ≡ front ++ (ticket ++ pa_type)
-unfolding on_literals
-stored-bytes = refl
-
--- a new cache has a header of no fields if no time offset is given
-new-cache : result_map_both cache_image (λ code. code) (create_result (name (codes "u@R")) None most_bytes)
-    ≡ Ok (hex (codes "05040000000000010000000100000001520000000175"))
+-- a new cache has a header of no fields, or of the time offset
+new-cache : map (λ given. result_map_both cache_image (λ code. code) (create_result (name (codes "u@R")) given most_bytes)) (None ∷ Some (record { seconds = pos 5; micros = negsuc 9 }) ∷ [])
+    ≡ Ok (hex (codes "05040000000000010000000100000001520000000175")) ∷ Ok (hex (codes "0504000c0001000800000005fffffff6000000010000000100000001520000000175")) ∷ []
 unfolding on_literals
 new-cache = refl
