@@ -1,8 +1,9 @@
-//! A cache in heaps of each size, files in memory, holds on the disk, and what README shows.
+//! A cache in heaps of each size, first holes, files in memory, holds on the disk, and what README shows.
 
 mod caches;
 mod files;
 mod holds;
+mod keytabs;
 mod made;
 mod readme;
 

@@ -2,7 +2,7 @@
 
 use super::in_each_heap;
 use super::made::{HIGH_KEY, name_of};
-use krb_ccache::{Ccache, Cred};
+use krb_ccache::{Ccache, Cred, Offset};
 use krb_walk::Refusal;
 use krb_wire::Limits;
 use linked_list_allocator::LocalHeap;
@@ -44,7 +44,11 @@ fn add_twice(alloc: &LocalHeap, cache: &mut Ccache<&LocalHeap>) -> Result<u32, R
 /// Returns a cache with a ticket, a copy of it and a value, and the place of the first.
 fn made(alloc: &LocalHeap) -> Result<(Ccache<&LocalHeap>, u32), Refusal> {
     let user = name_of(alloc, b"u@R")?;
-    let mut cache = Ccache::create(alloc, &user, None, Limits::usual())?;
+    let offset = Offset {
+        seconds: 5,
+        micros: -10,
+    };
+    let mut cache = Ccache::create(alloc, &user, Some(offset), Limits::usual())?;
     let place = add_twice(alloc, &mut cache)?;
     cache.set_config(b"k", None, b"old")?;
     cache.set_config(b"k", None, b"new")?;
@@ -65,11 +69,11 @@ fn tickets<A: Allocator>(cache: &Ccache<A>) -> u64 {
 /// Changes that cache, and returns whether its tickets and its value are right.
 fn change(heap: &LocalHeap) -> Result<bool, Refusal> {
     let (mut cache, place) = made(heap)?;
-    let before = tickets(&cache);
+    let before = (cache.first(), tickets(&cache));
     cache.remove_at(place)?;
     cache.rewrite(&mut [])?;
     let value = cache.config(b"k", None);
-    Ok((before, tickets(&cache)) == (2, 1) && value == Some(b"new".as_slice()))
+    Ok((before, tickets(&cache)) == ((34, 2), 1) && value == Some(b"new".as_slice()))
 }
 
 #[test]

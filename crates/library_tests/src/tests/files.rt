@@ -1,8 +1,9 @@
 //! Files in memory, and loads.
 
 use super::BLOCK;
-use krb_files::{Files, LoadFault, MemFiles, SaveFault, WatchedReader, load};
+use krb_files::{Files, LoadFault, MemFiles, SaveFault, WatchedReader, load, save};
 use linked_list_allocator::LocalHeap;
+use std::io::{Read, repeat};
 use std::test::Fail;
 
 /// The second call is set to fail.
@@ -26,4 +27,14 @@ fn a_load_within_its_limit(rt: HostRuntime) -> Result<(), Fail> {
         assert!(rt; load(&heap, &mut reader, 8, expected)?.as_slice() == b"8 bytes.".as_slice());
     }
     Ok(())
+}
+
+/// A load from an input without an end stops a byte beyond its limit, and a save if no more is taken.
+#[test]
+fn no_end_and_no_room(rt: HostRuntime) {
+    let mut reader = WatchedReader::new(repeat(7).take(u64::MAX));
+    assert!(rt; load(rt.alloc(), &mut reader, 10, 0).err() == Some(LoadFault::TooLarge));
+    assert!(rt; reader.into_reader().limit() == u64::MAX - 11);
+    let mut room = [0u8; 5];
+    assert!(rt; save(&mut room.as_mut_slice(), b"8 bytes.") == Err(5));
 }
