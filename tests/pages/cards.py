@@ -1,8 +1,10 @@
-"""There is a card of each command: few lines of few columns, and all that computes in full there has a sample."""
+"""There is a card of each command: few lines of few columns, and all that computes in full there has a sample. What a
+contract says does not change with the constants of the code: no definition names one, and clauses only sizes."""
 
 import os
 import re
 
+from pages.documents import paths, read
 from runs.commands import COMMANDS
 from runs.harness import TOP, Report, files_in, folder_of, run
 
@@ -10,6 +12,10 @@ BREAKS = ("crates/*/specs", "crates/samples", "tests/definitions")
 
 MAKER = os.path.join(TOP, "tests", "definitions")
 LINES, COLUMNS = 200, 100
+
+SIZES = {"FULL", "BATCH"}  # the constants that clauses may name: what is gathered before a write, and quoted at once
+CONSTANT = re.compile(r"^ *(?:pub(?:\(\w+\))? )?(?:const|static) (\w\w+):.* =", re.MULTILINE)
+CLAUSE = re.compile(r"^ +(?:requires|ensures)\b.*?\}$", re.MULTILINE | re.DOTALL)
 
 # The comment of a definition in full, above what is no comment, no field and no other comment.
 COMMENT = re.compile(r"(?:^ *-- .*\n)+(?! *(?:--|pub \S+ :))", re.MULTILINE)
@@ -23,8 +29,17 @@ def faults(card: str) -> list[str]:
     return wrong + [f"{len(lines)} lines"] * (len(lines) > LINES) + [line for line in lines if len(line) > COLUMNS]
 
 
+def constants_named() -> set[str]:
+    """Returns the files of definitions that name constants of the code, and the constants that clauses name."""
+    texts = {path: read(path) for path in paths("crates/*/specs/**/*.antt", "crates/*/src/**/*.rt")}
+    clauses = "".join(clause for text in texts.values() for clause in CLAUSE.findall(text))
+    constants = {name for text in texts.values() for name in CONSTANT.findall(text)}
+    return {path for path, text in texts.items() if "TheConstants" in text} | constants & {*re.findall(r"\w+", clauses)}
+
+
 def check(report: Report, program: str) -> None:
     """Makes the cards. The program is not run."""
+    report.check("the constants of the code that contracts name", sorted(constants_named() ^ SIZES))
     with folder_of({}) as folder:
         made = run(MAKER, ("--cards", folder), folder)
         cards = {name: text.decode() for name, text in files_in(folder).items()}

@@ -11,11 +11,10 @@ use Rattle.krb_keytab.specs.Store.{KeytabState, store_of}
 use Rattle.krb_audit.specs.declared.counts.Counts.{Counts}
 use Rattle.krb_findings.specs.declared.finding.Finding.{Finding}
 use Rattle.krb_findings.specs.declared.finding.Finding.TheVariants.{Mode, Missing, Empty}
-use Rattle.krb_findings.specs.declared.finding.TheConstants.{FINDINGS}
 use Rattle.krb_findings.specs.declared.finding_set.FindingSet.{FindingSet}
 use Rattle.krb_findings.specs.declared.weak_etypes.WeakEtypes.{WeakEtypes}
 use Rattle.krb_audit.specs.Findings.{Marked, reported, weak_among}
-use Rattle.krb_findings.specs.Table.{has_some, joined, none, row_of, with_if, without}
+use Rattle.krb_findings.specs.Table.{all_findings, has_some, joined, none, row_of, with_if, without}
 
 -- ---- the mode
 
@@ -103,7 +102,7 @@ counts_at mode finding = (row_of finding).counts
 
 -- the findings that do not count for the status: those that are allowed, and those that do not make it 1
 abbrev pub uncounted : Option ℕ → FindingSet → FindingSet
-uncounted mode allowed = fold (λ s f. with_if (not (counts_at mode f)) f s) allowed FINDINGS
+uncounted mode allowed = fold (λ s f. with_if (not (counts_at mode f)) f s) allowed all_findings
 
 -- something is wrong: a finding that counts, or a fault
 abbrev pub is_wrong : FindingSet → CheckParts → Bool

@@ -8,11 +8,10 @@ use Rattle.krb_text.specs.FaultLine.{fault_line}
 use Rattle.krb_audit.specs.declared.counts.Counts.{Counts}
 use Rattle.krb_findings.specs.declared.finding.Finding.TheVariants.{Mode, Missing, Empty}
 use Rattle.krb_findings.specs.declared.finding.Finding.{Finding}
-use Rattle.krb_findings.specs.declared.finding.TheConstants.{ABOUT_ENTRIES}
 use Rattle.krb_findings.specs.declared.finding_set.FindingSet.{FindingSet}
 use Rattle.krb_audit.specs.CheckUp.{CheckParts, is_open}
 use Rattle.krb_audit.specs.Findings.{Marked, first_for}
-use Rattle.krb_findings.specs.Table.{has, row_of}
+use Rattle.krb_findings.specs.Table.{findings_about_entries, has, row_of}
 
 -- a number in octal without leading zeros: at most its last `places` digits
 abbrev pub octal : ℕ → ℕ → List ℕ
@@ -41,7 +40,7 @@ finding_line label left_out m finding = if has m.1.findings finding && not (has 
 
 -- the lines of what is found about an entry
 abbrev pub finding_lines : List ℕ → FindingSet → Marked → List ℕ
-finding_lines label left_out m = flat_map (finding_line label left_out m) ABOUT_ENTRIES
+finding_lines label left_out m = flat_map (finding_line label left_out m) findings_about_entries
 
 -- the line of a keytab without an entry
 abbrev pub empty_line : List ℕ → FindingSet → Bool → List ℕ

@@ -18,9 +18,8 @@ use Rattle.krb_text.specs.Escape.{escaped_text}
 use Rattle.krb_text.specs.declared.line_fault.LineFault.{LineFault}
 use Rattle.krb_text.specs.declared.line_fault.LineFault.TheVariants.{UnknownWord}
 use Rattle.krb_text.specs.LineFault.{line_phrase, ktutil_phrase}
-use Rattle.krb_findings.specs.Table.{has, row_of}
+use Rattle.krb_findings.specs.Table.{all_findings, has, row_of}
 use Rattle.krb_findings.specs.declared.finding.Finding.{Finding}
-use Rattle.krb_findings.specs.declared.finding.TheConstants.{FINDINGS}
 use Rattle.krb_findings.specs.declared.finding_set.FindingSet.{FindingSet}
 use Rattle.krb_driver.specs.declared.error.RunError.{RunError}
 use Rattle.krb_driver.specs.declared.file_name.NameSource.{NameSource}
@@ -205,7 +204,7 @@ found_fault_words file (Some fault) = listed_words file fault
 
 -- the words that explain findings, and hints
 abbrev pub found_words : List ℕ → Findings → List ℕ
-found_words file findings = flat_map (word_line findings.words) FINDINGS ++ (found_fault_words file findings.fault ++ hint_words file findings)
+found_words file findings = flat_map (word_line findings.words) all_findings ++ (found_fault_words file findings.fault ++ hint_words file findings)
 
 -- the words for an unknown first word of a script's line
 abbrev pub unknown_words : FirstWord → List ℕ

@@ -1,8 +1,7 @@
 -- The table of findings, and sets of them.
-use Rattle.std.specs.Prelude.{ℕ, ◌^◌, ◌-◌, bit_and, bit_or, List, codes, Bool, true, false, not, ◌==◌, if◌then◌else◌, fold}
+use Rattle.std.specs.Prelude.{ℕ, ◌^◌, ◌-◌, bit_and, bit_or, List, [], ◌∷◌, codes, Bool, true, false, not, ◌==◌, if◌then◌else◌, fold}
 use Rattle.krb_findings.specs.declared.finding.Finding.{Finding}
 use Rattle.krb_findings.specs.declared.finding.Finding.TheVariants.{Weak, Hidden, Same, Clash, Old, Mode, Size, Aged, Missing, Empty}
-use Rattle.krb_findings.specs.declared.finding.TheConstants.{ABOUT_ENTRIES}
 use Rattle.krb_findings.specs.declared.finding_set.FindingSet.{FindingSet}
 
 -- what is said of a finding: the word that its line begins with, its phrase, and whether it makes the status 1
@@ -23,6 +22,14 @@ row_of Size = record { word = codes "size"; phrase = codes "a key that is not as
 row_of Aged = record { word = codes "aged"; phrase = codes "a key that is older than was asked"; counts = true }
 row_of Missing = record { word = codes "missing"; phrase = codes "no entry of a name that was asked for"; counts = true }
 row_of Empty = record { word = codes "empty"; phrase = codes "a keytab without an entry"; counts = true }
+
+-- the findings, in the order in which words explain them
+abbrev pub all_findings : List Finding
+all_findings = Weak ∷ Hidden ∷ Same ∷ Clash ∷ Old ∷ Mode ∷ Size ∷ Aged ∷ Missing ∷ Empty ∷ []
+
+-- those about an entry, in the order of its lines
+abbrev pub findings_about_entries : List Finding
+findings_about_entries = Weak ∷ Size ∷ Hidden ∷ Same ∷ Clash ∷ Old ∷ Aged ∷ []
 
 -- ---- sets of findings
 
@@ -71,4 +78,4 @@ with_if holds finding s = joined s (only_if holds finding)
 
 -- the findings about an entry for which a test holds
 abbrev pub set_of : (Finding → Bool) → FindingSet
-set_of test = fold (λ s f. with_if (test f) f s) none ABOUT_ENTRIES
+set_of test = fold (λ s f. with_if (test f) f s) none findings_about_entries

@@ -3,8 +3,7 @@
 ghost use Rattle.std.specs.Prelude.{◌≡◌};
 ghost use Rattle.std.specs.List.{find};
 ghost use Rattle.std.specs.Str.{bytes_eq};
-ghost use Rattle.krb_findings.specs.Table.{bit_of, row_of};
-ghost use Rattle.krb_findings.specs.declared.finding.TheConstants.{FINDINGS};
+ghost use Rattle.krb_findings.specs.Table.{all_findings, bit_of, row_of};
 
 /// What a check of a keytab can find.
 #[derive(Clone, Copy, Debug, PartialEq, Eq)]
@@ -103,7 +102,7 @@ impl Finding {
 
     /// Returns the finding whose lines begin with a word.
     pub fn named(word: &str) -> Option<Finding>
-        ensures { result ≡ find (λ finding. bytes_eq (row_of finding).word word.now) FINDINGS }
+        ensures { result ≡ find (λ finding. bytes_eq (row_of finding).word word.now) all_findings }
     {
         FINDINGS
             .iter()

@@ -7,11 +7,10 @@ use Rattle.krb_keytab.specs.Find.{PlacedEntry}
 use Rattle.krb_audit.specs.declared.counts.Counts.{Counts}
 use Rattle.krb_findings.specs.declared.finding.Finding.{Finding}
 use Rattle.krb_findings.specs.declared.finding.Finding.TheVariants.{Mode, Missing, Empty}
-use Rattle.krb_findings.specs.declared.finding.TheConstants.{ABOUT_ENTRIES}
 use Rattle.krb_audit.specs.CheckUp.{CheckParts, has_mode, is_open}
 use Rattle.krb_audit.specs.Findings.{Marked, first_for}
 use Rattle.krb_audit.specs.Report.{mode_digits}
-use Rattle.krb_findings.specs.Table.{has, row_of}
+use Rattle.krb_findings.specs.Table.{findings_about_entries, has, row_of}
 use Rattle.krb_json.specs.Escaped.{json_text}
 use Rattle.krb_json.specs.Members.{Member, object_of, array_of, number_of, text_member, fault_value, status_members}
 
@@ -56,7 +55,7 @@ entry_finding m finding = if has m.1.findings finding then finding_value finding
 
 -- what is found about an entry
 abbrev pub entry_findings : Marked → List Json
-entry_findings m = flat_map (entry_finding m) ABOUT_ENTRIES
+entry_findings m = flat_map (entry_finding m) findings_about_entries
 
 -- a name that is missing
 abbrev pub missing_value : List ℕ → Json

@@ -8,11 +8,10 @@ use Rattle.krb_keytab.specs.Store.{KeytabState}
 use Rattle.krb_files.specs.declared.files.Files.{Ghosts}
 use Rattle.krb_files.specs.Plan.{Ends}
 use Rattle.krb_findings.specs.declared.finding.Finding.{Finding}
-use Rattle.krb_findings.specs.declared.finding.TheConstants.{FINDINGS}
 use Rattle.krb_findings.specs.declared.finding_set.FindingSet.{FindingSet}
 use Rattle.krb_audit.specs.CheckUp.{CheckParts, checked, findings_of, is_wrong, uncounted}
 use Rattle.krb_audit.specs.Report.{report}
-use Rattle.krb_findings.specs.Table.{joined, none, only_if, row_of, without}
+use Rattle.krb_findings.specs.Table.{all_findings, joined, none, only_if, row_of, without}
 use Rattle.krb_json.specs.Check.{check_json_text, refused_json_text}
 use Rattle.krb_driver.specs.declared.command.RunEnd.{RunEnd}
 use Rattle.krb_driver.specs.declared.command.World.{World}
@@ -130,7 +129,7 @@ ChecksAll trait o now old new status names = ChecksWith trait o old new status n
 
 -- the finding with that word
 abbrev pub finding : List ℕ → Option Finding
-finding word = find (λ f. bytes_eq (row_of f).word word) FINDINGS
+finding word = find (λ f. bytes_eq (row_of f).word word) all_findings
 
 -- the mistake in a word that is no finding
 abbrev pub bad_finding : List ℕ → Option MistakeParts

@@ -2,7 +2,7 @@
 
 ghost use Rattle.std.specs.Prelude.{◌≡◌};
 ghost use Rattle.krb_driver.specs.EndingWords.{ending_words, itemized_words, failure_words, hidden_words_of, reported_words, found_fault_words, found_words, word_line};
-ghost use Rattle.krb_findings.specs.declared.finding.TheConstants.{FINDINGS};
+ghost use Rattle.krb_findings.specs.Table.{all_findings};
 ghost use Rattle.krb_driver.specs.Runs.{Adds};
 ghost use Rattle.std.specs.List.{flat_map};
 ghost use Rattle.krb_driver.specs.Messages.{pieces_text};
@@ -124,7 +124,7 @@ fn word_line(explained: FindingSet, finding: Finding) -> [MessagePiece<'static>;
 }
 
 fn add_word_lines<E: Write>(explained: FindingSet, gathered: &mut Gathered, err: &mut Watched<E>)
-    ensures { Adds err.old gathered.old.items err.new gathered.new.items (flat_map (word_line explained) FINDINGS) }
+    ensures { Adds err.old gathered.old.items err.new gathered.new.items (flat_map (word_line explained) all_findings) }
 {
     'findings: for finding in &FINDINGS {
         add_pieces(&word_line(explained, *finding), gathered, err);
