@@ -80,7 +80,7 @@ def check_lost(report: Report, program: str) -> None:
                 ("stderr", "full", {"stderr": full}), ("stderr", "closed", closed(2) | {"stderr": None}))
         for ends, (stream, how, options) in product(
                 map(Ends, (*timeless, *both_ways(*CHANGES), *READS, *LEAVES, *TALKS)), lost):
-            got, files = run_case(program, ends.run, **options)
+            got, files = run_case(program, ends.run.as_case(), **options)
             found = [] if is_met(ends, stream, (got, files)) else [f"{got} and {sorted(files)}"]
             report.check(f"{how} {stream}: {ends.run.name}", found)
 
