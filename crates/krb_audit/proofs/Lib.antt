@@ -16,3 +16,4 @@ pub mod WeakNumbers
 pub mod NewestLemmas
 pub mod OnLiterals
 mod Samples
+pub mod ForAnswers

@@ -18,3 +18,4 @@ pub mod NothingElse
 pub mod Silent
 pub mod Differences
 pub mod OnLiterals
+pub mod ForAnswers

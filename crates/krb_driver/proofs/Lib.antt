@@ -6,3 +6,4 @@ pub mod Running
 pub mod Words
 pub mod Failures
 mod Rounds
+pub mod ForAnswers

@@ -5,3 +5,4 @@ pub mod Copies
 pub mod AddedPlaces
 mod Holding
 mod Looking
+pub mod ForAnswers

@@ -11,3 +11,4 @@ pub mod Adding
 pub mod ReadBack
 pub mod Wholes
 pub mod OnLiterals
+pub mod ForAnswers

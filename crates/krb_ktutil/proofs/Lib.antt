@@ -5,3 +5,4 @@ pub mod KtutilHandles
 pub mod KtutilDue
 pub mod KtutilHonestly
 pub mod KtutilLemmas
+pub mod ForAnswers

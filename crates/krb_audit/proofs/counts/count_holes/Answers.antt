@@ -1,5 +1,4 @@
-use Rattle.krb_audit.proofs.Cited.{◌≡◌, ◌∷◌, ◌∙◌, ◌+◌, ap, length, arith, sum_by, size, holes, Free, cell_of, KtCell}
-use Rattle.krb_audit.proofs.CountsLemmas.{added_ge, hole_added, hole_counted, holes_few, holes_small}
+use Rattle.krb_audit.proofs.ForAnswers.{◌≡◌, ◌∷◌, ◌∙◌, ◌+◌, ap, length, arith, sum_by, size, holes, Free, cell_of, KtCell, added_ge, hole_added, hole_counted, holes_few, holes_small}
 use Rattle.krb_audit.proofs.counts.count_holes.Goals as goal
 
 pub overflow_add-holes : goal.overflow_add-holes

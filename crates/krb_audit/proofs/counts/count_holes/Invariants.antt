@@ -1,5 +1,4 @@
-use Rattle.krb_audit.proofs.Cited.{◌≡◌, ◌+◌, length, sum_by, size, holes}
-use Rattle.krb_audit.proofs.CountsLemmas.{added}
+use Rattle.krb_audit.proofs.ForAnswers.{◌≡◌, ◌+◌, length, sum_by, size, holes, added}
 use Rattle.krb_audit.proofs.counts.count_holes.Given as goal
 
 -- the holes so far, and those that are still to come

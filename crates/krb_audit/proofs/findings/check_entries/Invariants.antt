@@ -1,5 +1,4 @@
-use Rattle.krb_audit.proofs.Cited.{map, vec_items}
-use Rattle.krb_audit.proofs.FindingsLemmas.{IsCheckedUpTo}
+use Rattle.krb_audit.proofs.ForAnswers.{map, vec_items, IsCheckedUpTo}
 use Rattle.krb_audit.proofs.findings.check_entries.Given as goal
 
 -- the entries so far are checked, and the others are still to come

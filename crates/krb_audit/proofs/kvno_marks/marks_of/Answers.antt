@@ -1,5 +1,4 @@
-use Rattle.krb_audit.proofs.Cited.{ap, subst, sym, ◌∙◌, map, arith, take_all, AreNewest, selects_row}
-use Rattle.krb_audit.proofs.KvnoMarkLemmas.{are_marks}
+use Rattle.krb_audit.proofs.ForAnswers.{ap, subst, sym, ◌∙◌, map, arith, take_all, AreNewest, selects_row, are_marks}
 use Rattle.krb_audit.proofs.kvno_marks.marks_of.Goals as goal
 
 pub returns : goal.returns

@@ -1,5 +1,4 @@
-use Rattle.krb_audit.proofs.Cited.{None, ap, sym, subst, ◌∙◌, replicate, arith, fold, take_all, AreNewest}
-use Rattle.krb_audit.proofs.NewestStamps.{are_newest, renewed}
+use Rattle.krb_audit.proofs.ForAnswers.{None, ap, sym, subst, ◌∙◌, replicate, arith, fold, take_all, AreNewest, are_newest, renewed}
 use Rattle.krb_audit.proofs.newest.newest_stamps.Goals as goal
 
 pub returns : goal.returns

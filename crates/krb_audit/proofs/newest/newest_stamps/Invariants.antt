@@ -1,5 +1,4 @@
-use Rattle.krb_audit.proofs.Cited.{◌≡◌, replicate, take, None, fold}
-use Rattle.krb_audit.proofs.NewestStamps.{renewed}
+use Rattle.krb_audit.proofs.ForAnswers.{◌≡◌, replicate, take, None, fold, renewed}
 use Rattle.krb_audit.proofs.newest.newest_stamps.Given as goal
 
 abbrev pub invariant-rows : goal.invariant-rows

@@ -1,5 +1,4 @@
-use Rattle.krb_audit.proofs.Cited.{List, ap, sym, subst, ◌∙◌, KtFormat, PlacedEntry, placed_entries, AreNumbered, is_some_has, CellsFrom, BeginsWith, cell_of, entries_in, entry_at, KtCell, entries_of_cells, listed_live}
-use Rattle.krb_audit.proofs.Numbering.{none_numbered}
+use Rattle.krb_audit.proofs.ForAnswers.{List, ap, sym, subst, ◌∙◌, KtFormat, PlacedEntry, placed_entries, AreNumbered, is_some_has, CellsFrom, BeginsWith, cell_of, entries_in, entry_at, KtCell, entries_of_cells, listed_live, none_numbered}
 use Rattle.krb_audit.proofs.rows.rows_of.Goals as goal
 
 pub loop-place-init : goal.loop-place-init

@@ -1,5 +1,4 @@
-use Rattle.krb_audit.proofs.Cited.{List, Bool, map, vec_items, sym, subst, PlacedEntry, placed_entries, AreVersions, has_selected_kvno, is_named, AsksFor}
-use Rattle.krb_audit.proofs.SelectedLemmas.{IsOnTheWay, one_further}
+use Rattle.krb_audit.proofs.ForAnswers.{List, Bool, map, vec_items, sym, subst, PlacedEntry, placed_entries, AreVersions, has_selected_kvno, is_named, AsksFor, IsOnTheWay, one_further}
 use Rattle.krb_audit.proofs.selection.take_selected.Goals as goal
 
 -- the next entry was taken if it is selected

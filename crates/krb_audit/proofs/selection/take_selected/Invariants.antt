@@ -1,5 +1,4 @@
-use Rattle.krb_audit.proofs.Cited.{map, vec_items, placed_entries, AreVersions, has_selected_kvno, is_named, AsksFor}
-use Rattle.krb_audit.proofs.SelectedLemmas.{IsOnTheWay}
+use Rattle.krb_audit.proofs.ForAnswers.{map, vec_items, placed_entries, AreVersions, has_selected_kvno, is_named, AsksFor, IsOnTheWay}
 use Rattle.krb_audit.proofs.selection.take_selected.Given as goal
 
 -- the selected ones of the entries so far were taken

@@ -1,5 +1,4 @@
-use Rattle.krb_audit.proofs.Cited.{false, ap, sym, subst, ◌∙◌, replicate, arith, fold, take_all, Some, Old, AreYoung}
-use Rattle.krb_audit.proofs.KvnoMarkLemmas.{are_young, marked}
+use Rattle.krb_audit.proofs.ForAnswers.{false, ap, sym, subst, ◌∙◌, replicate, arith, fold, take_all, Some, Old, AreYoung, are_young, marked}
 use Rattle.krb_audit.proofs.young.young_for.Goals as goal
 
 pub returns : goal.returns

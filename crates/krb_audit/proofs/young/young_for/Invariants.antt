@@ -1,5 +1,4 @@
-use Rattle.krb_audit.proofs.Cited.{◌≡◌, replicate, take, false, fold}
-use Rattle.krb_audit.proofs.KvnoMarkLemmas.{marked}
+use Rattle.krb_audit.proofs.ForAnswers.{◌≡◌, replicate, take, false, fold, marked}
 use Rattle.krb_audit.proofs.young.young_for.Given as goal
 
 abbrev pub invariant-rows : goal.invariant-rows

@@ -1,6 +1,4 @@
-use Rattle.krb_copy.proofs.Cited.{List, ℕ, subst, ◌++◌, ◌∷◌, map, name_text, PlacedEntry, placed_entries, as_found, AreTexts, entry_texts}
-use Rattle.krb_copy.proofs.ClassKeys.{key_of_fields}
-use Rattle.krb_copy.proofs.FoundTexts.{one_found}
+use Rattle.krb_copy.proofs.ForAnswers.{List, ℕ, subst, ◌++◌, ◌∷◌, map, name_text, PlacedEntry, placed_entries, as_found, AreTexts, entry_texts, key_of_fields, one_found}
 use Rattle.krb_copy.proofs.classes.classes_of.Goals as goal
 
 pub entries-preserved : goal.entries-preserved

@@ -1,5 +1,4 @@
-use Rattle.krb_copy.proofs.Cited.{List, ℕ, ◌++◌, placed_entries, AreTexts, entry_texts}
-use Rattle.krb_copy.proofs.FoundTexts.{AreFound}
+use Rattle.krb_copy.proofs.ForAnswers.{List, ℕ, ◌++◌, placed_entries, AreTexts, entry_texts, AreFound}
 use Rattle.krb_copy.proofs.classes.classes_of.Given as goal
 
 -- the classes are those of the entries so far, and the texts those of the others

@@ -1,5 +1,4 @@
-use Rattle.krb_copy.proofs.Cited.{asked_texts, asked_as, name_in, sym, ap, subst, ◌++◌, placed_entries, entry_texts, copy_run, run_over, run_start, InMemory, IsMade, err_from_is_err_and, Copying}
-use Rattle.krb_copy.proofs.Runs.{starts, due_is, made_is, refused_is}
+use Rattle.krb_copy.proofs.ForAnswers.{asked_texts, asked_as, name_in, sym, ap, subst, ◌++◌, placed_entries, entry_texts, copy_run, run_over, run_start, InMemory, IsMade, err_from_is_err_and, Copying, starts, due_is, made_is, refused_is}
 use Rattle.krb_copy.proofs.copy.copy_by.Goals as goal
 
 pub returns-in_err-go_over-clause-refused : goal.returns-in_err-go_over-clause-refused

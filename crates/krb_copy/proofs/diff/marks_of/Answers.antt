@@ -1,6 +1,5 @@
-use Rattle.krb_copy.proofs.Cited.{◌≡◌, ◌∙◌, ap, sym, subst, false, length, get_or, ◌||◌, Bool, List, ℕ, ◌<◌, length-replicate, All, lacks, Row}
+use Rattle.krb_copy.proofs.ForAnswers.{◌≡◌, ◌∙◌, ap, sym, subst, false, length, get_or, ◌||◌, Bool, List, ℕ, ◌<◌, length-replicate, All, lacks, Row, all_marked, as_long, get_or_none}
 use Rattle.std.proofs.Common.{replicate, rules}
-use Rattle.krb_copy.proofs.DiffKeys.{all_marked, as_long, get_or_none}
 use Rattle.krb_copy.proofs.diff.marks_of.Goals as goal
 
 pub returns : goal.returns

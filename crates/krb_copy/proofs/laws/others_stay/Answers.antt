@@ -1,5 +1,4 @@
-use Rattle.krb_copy.proofs.LawHistories.{all_stay}
-use Rattle.krb_copy.proofs.LawRuns.{others_stay}
+use Rattle.krb_copy.proofs.ForAnswers.{all_stay, others_stay}
 use Rattle.krb_copy.proofs.laws.others_stay.Goals as goal
 
 pub returns-clause-others : goal.returns-clause-others

@@ -1,6 +1,5 @@
+use Rattle.krb_copy.proofs.ForAnswers.{are_histories, changes_are_reported}
 use Rattle.krb_copy.proofs.Gone.{goes_by_its_entries}
-use Rattle.krb_copy.proofs.LawHistories.{are_histories}
-use Rattle.krb_copy.proofs.LawRuns.{changes_are_reported}
 use Rattle.krb_copy.proofs.laws.runs_are_histories.Goals as goal
 
 pub returns-clause-history : goal.returns-clause-history

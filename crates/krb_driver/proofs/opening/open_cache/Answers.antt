@@ -1,5 +1,4 @@
-use Rattle.krb_driver.specs.Loading.{cache_of}
-use Rattle.krb_driver.proofs.Making.{opens_by}
+use Rattle.krb_driver.proofs.ForAnswers.{cache_of, opens_by}
 use Rattle.krb_driver.proofs.opening.open_cache.Goals as goal
 
 pub returns : goal.returns

@@ -1,5 +1,4 @@
-use Rattle.krb_driver.specs.Loading.{keytab_in}
-use Rattle.krb_driver.proofs.Making.{opens_by}
+use Rattle.krb_driver.proofs.ForAnswers.{keytab_in, opens_by}
 use Rattle.krb_driver.proofs.opening.open_keytab.Goals as goal
 
 pub returns : goal.returns

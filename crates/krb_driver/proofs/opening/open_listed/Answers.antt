@@ -1,5 +1,4 @@
-use Rattle.krb_driver.specs.Loading.{listed_in}
-use Rattle.krb_driver.proofs.Making.{opens_by}
+use Rattle.krb_driver.proofs.ForAnswers.{listed_in, opens_by}
 use Rattle.krb_driver.proofs.opening.open_listed.Goals as goal
 
 pub returns : goal.returns

@@ -1,5 +1,4 @@
-use Rattle.krb_driver.specs.Loading.{keytab_in}
-use Rattle.krb_driver.proofs.Making.{tries_by}
+use Rattle.krb_driver.proofs.ForAnswers.{keytab_in, tries_by}
 use Rattle.krb_driver.proofs.opening.try_keytab.Goals as goal
 
 pub returns-in-Ok : goal.returns-in-Ok

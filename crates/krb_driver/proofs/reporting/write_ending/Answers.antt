@@ -1,5 +1,4 @@
-use Rattle.krb_driver.proofs.Cited.{Adds, ending_words, words_if}
-use Rattle.krb_driver.proofs.Shown.{Adds-none, Adds-then, Writes-two}
+use Rattle.krb_driver.proofs.ForAnswers.{Adds, ending_words, words_if, Adds-none, Adds-then, Writes-two}
 use Rattle.krb_driver.proofs.reporting.write_ending.Goals as goal
 use Rattle.krb_driver.proofs.reporting.write_ending.Goals.{then-explains, else-explains}
 

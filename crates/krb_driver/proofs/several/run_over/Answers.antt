@@ -1,6 +1,5 @@
-use Rattle.krb_driver.proofs.Cited.{refl, sym, ◌∙◌, arith, [], false, drop_all, Keytab, FileName}
+use Rattle.krb_driver.proofs.ForAnswers.{refl, sym, ◌∙◌, arith, [], false, drop_all, Keytab, FileName, last_one, one_more}
 use Rattle.krb_driver.specs.declared.file_name.NameSource.TheVariants.{Word}
-use Rattle.krb_driver.proofs.Rounds.{last_one, one_more}
 use Rattle.krb_driver.proofs.several.run_over.Goals as goal
 
 -- no file

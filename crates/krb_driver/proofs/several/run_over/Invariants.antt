@@ -1,5 +1,4 @@
-use Rattle.krb_driver.proofs.Cited.{drop, first_round}
-use Rattle.krb_driver.proofs.Rounds.{Leads}
+use Rattle.krb_driver.proofs.ForAnswers.{drop, first_round, Leads}
 use Rattle.krb_driver.proofs.several.run_over.Given as goal
 
 -- the command was run over the files so far, and others may come

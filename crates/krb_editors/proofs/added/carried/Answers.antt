@@ -1,7 +1,6 @@
-use Rattle.krb_editors.proofs.Cited.{ap, ◌∙◌, ◌≡◌, ◌++◌, ◌∷◌, [], map, append-nil, nth_or, HaveSame, carry_by}
+use Rattle.krb_editors.proofs.ForAnswers.{ap, ◌∙◌, ◌≡◌, ◌++◌, ◌∷◌, [], map, append-nil, nth_or, HaveSame, carry_by, same_inserted, same_refl, same_trans, same_turned}
 use Rattle.std.proofs.lemmas.Map.Iter.{rest_all, rest_more}
 use Rattle.std.specs.Map.Iter.{deref}
-use Rattle.krb_editors.proofs.AddedPlaces.{same_inserted, same_refl, same_trans, same_turned}
 use Rattle.krb_editors.proofs.added.carried.Goals as goal
 
 -- all are left

@@ -1,5 +1,4 @@
-use Rattle.krb_editors.proofs.Cited.{map, subst, ap, sym, ◌∙◌, ◌≡◌, ◌++◌, ◌∷◌, [], ℕ, List, arith, append_assoc, append-nil, live_places, end_of, IsNonDecreasing, places_rise, walks_begin_with_all}
-use Rattle.krb_editors.proofs.AddedPlaces.{rises-non_decreasing, passes, passes_none, places_from}
+use Rattle.krb_editors.proofs.ForAnswers.{map, subst, ap, sym, ◌∙◌, ◌≡◌, ◌++◌, ◌∷◌, [], ℕ, List, arith, append_assoc, append-nil, live_places, end_of, IsNonDecreasing, places_rise, walks_begin_with_all, rises-non_decreasing, passes, passes_none, places_from}
 use Rattle.krb_editors.proofs.added.live_places.Goals as goal
 
 -- all places are left

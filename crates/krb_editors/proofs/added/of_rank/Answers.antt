@@ -1,5 +1,4 @@
-use Rattle.krb_editors.proofs.Cited.{ap, ◌∙◌, arith, unwrap_or}
-use Rattle.krb_editors.proofs.AddedPlaces.{nth_or-get}
+use Rattle.krb_editors.proofs.ForAnswers.{ap, ◌∙◌, arith, unwrap_or, nth_or-get}
 use Rattle.krb_editors.proofs.added.of_rank.Goals as goal
 
 pub returns : goal.returns

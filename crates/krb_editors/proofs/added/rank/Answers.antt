@@ -1,6 +1,5 @@
-use Rattle.krb_editors.proofs.Cited.{rules, sym, arith, nat_lt}
+use Rattle.krb_editors.proofs.ForAnswers.{rules, sym, arith, nat_lt, below_point}
 use Rattle.std.proofs.lemmas.List.Sorted.{IsPartitionPoint-from_clause, IsPartitionedBy-ltb}
-use Rattle.krb_editors.proofs.AddedPlaces.{below_point}
 use Rattle.krb_editors.proofs.added.rank.Goals as goal
 
 pub returns : goal.returns

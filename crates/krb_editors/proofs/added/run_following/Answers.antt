@@ -1,6 +1,4 @@
-use Rattle.krb_editors.proofs.Cited.{[], ◌<◌, length, map, take, arith, session_of, content_of, ran_none}
-use Rattle.krb_editors.proofs.AddedPlaces.{same_followed, same_refl}
-use Rattle.krb_editors.proofs.RunJoins.{one_more, ran_event}
+use Rattle.krb_editors.proofs.ForAnswers.{[], ◌<◌, length, map, take, arith, session_of, content_of, ran_none, same_followed, same_refl, one_more, ran_event}
 use Rattle.krb_editors.proofs.added.run_following.Goals as goal
 
 -- no event was run yet

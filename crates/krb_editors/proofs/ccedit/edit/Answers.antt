@@ -1,8 +1,6 @@
-use Rattle.krb_editors.proofs.Cited.{ℕ, List, map, ap, ◌∙◌, content_of, cache_rules, CacheState, image_of, reply_texts_by, replied, V4, Cache}
-use Rattle.std.specs.Prelude.{None}
+use Rattle.krb_editors.proofs.ForAnswers.{ℕ, List, map, ap, ◌∙◌, content_of, cache_rules, CacheState, image_of, reply_texts_by, replied, V4, Cache, None, cache_keeps, made_as, made_so, ran_fair, session_made}
 use Rattle.krb_cache_text.specs.Reply.{cache_record_tail}
 use Rattle.krb_editors.specs.Ccedit.{RunsFairly, cache_events, edits}
-use Rattle.krb_editors.proofs.SessionReplies.{cache_keeps, made_as, made_so, ran_fair, session_made}
 use Rattle.krb_editors.proofs.ccedit.edit.Goals as goal
 
 -- what the session did, and what is saved and printed after it

@@ -1,5 +1,4 @@
-use Rattle.krb_editors.proofs.Cited.{ap, arith, ◌<◌, ◌≤◌, length, take_all, SessionState, ran_none, cache_rules, CacheState, cache_session, new_session}
-use Rattle.krb_editors.proofs.RunJoins.{ran_line, ran_to_end}
+use Rattle.krb_editors.proofs.ForAnswers.{ap, arith, ◌<◌, ◌≤◌, length, take_all, SessionState, ran_none, cache_rules, CacheState, cache_session, new_session, ran_line, ran_to_end}
 use Rattle.krb_editors.proofs.ccedit.run_lines.Goals as goal
 
 -- no line was run yet

@@ -1,5 +1,4 @@
-use Rattle.krb_editors.proofs.Cited.{sym, ◌∙◌, cache_session}
-use Rattle.krb_editors.proofs.RunJoins.{set_placed}
+use Rattle.krb_editors.proofs.ForAnswers.{sym, ◌∙◌, cache_session, set_placed}
 use Rattle.krb_editors.proofs.ccedit.set_value.Goals as goal
 
 -- the addition was not refused, and the others were removed

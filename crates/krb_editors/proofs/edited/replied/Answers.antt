@@ -1,5 +1,4 @@
-use Rattle.krb_editors.proofs.Cited.{map, ap, sym, ◌∙◌, content_of, reply_texts_by, is_change, any_of_map, hiding}
-use Rattle.krb_editors.proofs.SessionReplies.{replied_shows, replied_saves}
+use Rattle.krb_editors.proofs.ForAnswers.{map, ap, sym, ◌∙◌, content_of, reply_texts_by, is_change, any_of_map, hiding, replied_shows, replied_saves}
 use Rattle.krb_editors.proofs.edited.replied.Goals as goal
 
 pub returns-then-are_changes : goal.returns-then-are_changes

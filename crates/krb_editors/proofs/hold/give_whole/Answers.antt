@@ -1,5 +1,4 @@
-use Rattle.krb_editors.proofs.Cited.{Ok, Err, refl, held_in}
-use Rattle.krb_editors.proofs.Holding.{gives-of}
+use Rattle.krb_editors.proofs.ForAnswers.{Ok, Err, refl, held_in, gives-of}
 use Rattle.krb_editors.proofs.hold.give_whole.Goals as goal
 
 pub returns-in-Ok : goal.returns-in-Ok

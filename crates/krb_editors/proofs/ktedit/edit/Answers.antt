@@ -1,8 +1,5 @@
-use Rattle.krb_editors.proofs.Cited.{◌≡◌, ℕ, List, [], map, ap, subst, ◌∙◌, content_of, SessionState, session_of, history, record_tail, reply_texts_by, HaveSame, followed_over, added, left, new_session, replied, V2, keytab_rules, hides_added, Keytab}
+use Rattle.krb_editors.proofs.ForAnswers.{◌≡◌, ℕ, List, [], map, ap, subst, ◌∙◌, content_of, SessionState, session_of, history, record_tail, reply_texts_by, HaveSame, followed_over, added, left, new_session, replied, V2, keytab_rules, hides_added, Keytab, RunsFairly, edits, hidden, hides_same, begun_fair, keytab_keeps, left_begun, made_as, made_so, ran_begun, session_made}
 use Rattle.krb_keytab.specs.Store.{InMemory, KeytabState, image_of}
-use Rattle.krb_editors.specs.Ktedit.{RunsFairly, edits, hidden}
-use Rattle.krb_editors.proofs.AddedPlaces.{hides_same}
-use Rattle.krb_editors.proofs.SessionReplies.{begun_fair, keytab_keeps, left_begun, made_as, made_so, ran_begun, session_made}
 use Rattle.krb_editors.proofs.ktedit.edit.Goals as goal
 
 -- what the session did, and what is saved and printed after it

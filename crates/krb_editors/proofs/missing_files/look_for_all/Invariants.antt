@@ -1,5 +1,4 @@
-use Rattle.std.proofs.Common.{drop}
-use Rattle.krb_editors.proofs.Looking.{Leads}
+use Rattle.krb_editors.proofs.ForAnswers.{drop, Leads}
 use Rattle.krb_editors.proofs.missing_files.look_for_all.Given as goal
 
 -- the files so far were looked for, and others may come

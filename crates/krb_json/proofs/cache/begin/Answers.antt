@@ -1,5 +1,4 @@
-use Rattle.krb_json.proofs.Cited.{codes, subst, on_ok_weaker, name_text, version_byte, file_members, text_member, Begins, ◌++◌, ◌∷◌, []}
-use Rattle.krb_json.proofs.Chains.{head_written, one_more_member}
+use Rattle.krb_json.proofs.ForAnswers.{codes, subst, on_ok_weaker, name_text, version_byte, file_members, text_member, Begins, ◌++◌, ◌∷◌, [], head_written, one_more_member}
 use Rattle.krb_json.proofs.cache.begin.Goals as goal
 
 pub returns : goal.returns

@@ -1,7 +1,4 @@
-use Rattle.krb_json.proofs.Cited.{err_from_is_err_and, on_ok_weaker, gathers_prints, gathers_fails}
-use Rattle.krb_json.proofs.Sending.{prints_memory}
-use Rattle.krb_json.proofs.ReadBack.{cache_is_read}
-use Rattle.krb_json.proofs.Wholes.{cache_text}
+use Rattle.krb_json.proofs.ForAnswers.{err_from_is_err_and, on_ok_weaker, gathers_prints, gathers_fails, prints_memory, cache_is_read, cache_text}
 use Rattle.krb_json.proofs.cache.cache_json.Goals as goal
 
 pub returns-in_err-begin-clause-prints : goal.returns-in_err-begin-clause-prints

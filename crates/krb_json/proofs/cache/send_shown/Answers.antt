@@ -1,5 +1,4 @@
-use Rattle.krb_json.proofs.Cited.{ap, ◌∙◌, [], err_from_is_err_and, config_name, cons_option, shown_by, shown_values, PlacedCredential}
-use Rattle.krb_json.proofs.Adding.{adds_all, adds_more, adds_no_more, adds_none, cons_front}
+use Rattle.krb_json.proofs.ForAnswers.{ap, ◌∙◌, [], err_from_is_err_and, config_name, cons_option, shown_by, shown_values, PlacedCredential, adds_all, adds_more, adds_no_more, adds_none, cons_front}
 use Rattle.krb_json.proofs.cache.send_shown.Goals as goal
 
 pub credentials-init : goal.credentials-init

@@ -1,5 +1,4 @@
-use Rattle.krb_json.proofs.Cited.{placed_credentials, shown_values}
-use Rattle.krb_json.proofs.Adding.{AddsSome}
+use Rattle.krb_json.proofs.ForAnswers.{placed_credentials, shown_values, AddsSome}
 use Rattle.krb_json.proofs.cache.send_shown.Given as goal
 
 abbrev pub invariant-credentials : goal.invariant-credentials

@@ -1,5 +1,4 @@
-use Rattle.krb_json.proofs.Cited.{codes, subst, on_ok_weaker, check_members, Begins}
-use Rattle.krb_json.proofs.Chains.{head_written}
+use Rattle.krb_json.proofs.ForAnswers.{codes, subst, on_ok_weaker, check_members, Begins, head_written}
 use Rattle.krb_json.proofs.check.begin.Goals as goal
 
 pub returns-clause-begins : goal.returns-clause-begins

@@ -1,7 +1,4 @@
-use Rattle.krb_json.proofs.Cited.{rules, err_from_is_err_and, on_ok_weaker, gathers_prints, gathers_fails}
-use Rattle.krb_json.proofs.Sending.{prints_memory}
-use Rattle.krb_json.proofs.ReadBack.{check_is_read}
-use Rattle.krb_json.proofs.Wholes.{check_text}
+use Rattle.krb_json.proofs.ForAnswers.{rules, err_from_is_err_and, on_ok_weaker, gathers_prints, gathers_fails, prints_memory, check_is_read, check_text}
 use Rattle.krb_json.proofs.check.check_json.Goals as goal
 
 pub returns-in_err-begin-clause-prints : goal.returns-in_err-begin-clause-prints

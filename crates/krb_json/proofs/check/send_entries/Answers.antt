@@ -1,5 +1,4 @@
-use Rattle.krb_json.proofs.Cited.{err_from_is_err_and, entry_findings}
-use Rattle.krb_json.proofs.Adding.{adds_next, adds_stop}
+use Rattle.krb_json.proofs.ForAnswers.{err_from_is_err_and, entry_findings, adds_next, adds_stop}
 use Rattle.krb_json.proofs.check.send_entries.Goals as goal
 
 pub returns-in_err-send_marked : goal.returns-in_err-send_marked

@@ -1,5 +1,4 @@
-use Rattle.krb_json.proofs.Cited.{err_from_is_err_and}
-use Rattle.krb_json.proofs.Adding.{adds_two, adds_fails, missing_are}
+use Rattle.krb_json.proofs.ForAnswers.{err_from_is_err_and, adds_two, adds_fails, missing_are}
 use Rattle.krb_json.proofs.check.send_findings.Goals as goal
 
 pub returns-in_err-send_if : goal.returns-in_err-send_if

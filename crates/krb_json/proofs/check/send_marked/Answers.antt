@@ -1,5 +1,4 @@
-use Rattle.krb_json.proofs.Cited.{◌<◌, ◌≤◌, arith, length, err_from_is_err_and, entry_finding, take_all, ABOUT_ENTRIES}
-use Rattle.krb_json.proofs.Adding.{adds_next, adds_stop}
+use Rattle.krb_json.proofs.ForAnswers.{◌<◌, ◌≤◌, arith, length, err_from_is_err_and, entry_finding, take_all, ABOUT_ENTRIES, adds_next, adds_stop}
 use Rattle.krb_json.proofs.check.send_marked.Goals as goal
 
 pub returns-in_err-send_finding : goal.returns-in_err-send_finding

@@ -1,5 +1,4 @@
-use Rattle.krb_json.proofs.Cited.{sym, ◌∙◌, IfOk-weaker}
-use Rattle.krb_json.proofs.EscapedLemmas.{added-first, added-pair}
+use Rattle.krb_json.proofs.ForAnswers.{sym, ◌∙◌, IfOk-weaker, added-first, added-pair}
 use Rattle.krb_json.proofs.escape.add_second.Goals as goal
 
 pub returns-then-is_second : goal.returns-then-is_second

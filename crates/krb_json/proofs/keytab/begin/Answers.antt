@@ -1,6 +1,5 @@
-use Rattle.krb_json.proofs.Cited.{codes, subst, on_ok_weaker, file_members, Begins}
+use Rattle.krb_json.proofs.ForAnswers.{codes, subst, on_ok_weaker, file_members, Begins, head_written}
 use Rattle.krb_wire.specs.Spelling.{version_byte}
-use Rattle.krb_json.proofs.Chains.{head_written}
 use Rattle.krb_json.proofs.keytab.begin.Goals as goal
 
 pub returns : goal.returns

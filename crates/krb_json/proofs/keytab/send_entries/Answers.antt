@@ -1,5 +1,4 @@
-use Rattle.krb_json.proofs.Cited.{ap, ◌∙◌, err_from_is_err_and, ◌∷◌, [], map, entry_value}
-use Rattle.krb_json.proofs.Adding.{adds_all, adds_more, adds_no_more, adds_none}
+use Rattle.krb_json.proofs.ForAnswers.{ap, ◌∙◌, err_from_is_err_and, ◌∷◌, [], map, entry_value, adds_all, adds_more, adds_no_more, adds_none}
 use Rattle.krb_json.proofs.keytab.send_entries.Goals as goal
 
 pub entries-init : goal.entries-init

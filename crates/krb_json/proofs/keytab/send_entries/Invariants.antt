@@ -1,5 +1,4 @@
-use Rattle.krb_json.proofs.Cited.{map, entry_value, entry_values}
-use Rattle.krb_json.proofs.Adding.{AddsSome}
+use Rattle.krb_json.proofs.ForAnswers.{map, entry_value, entry_values, AddsSome}
 use Rattle.krb_json.proofs.keytab.send_entries.Given as goal
 
 abbrev pub invariant-entries : goal.invariant-entries

@@ -1,5 +1,4 @@
-use Rattle.krb_ktutil.proofs.Cited.{◌≡◌, ◌∙◌, length, drop, arith, err_from_is_err_and, HasNone}
-use Rattle.krb_ktutil.proofs.InputLemmas.{Grows-trans, IsFirst-earlier, HasNone-earlier, HasNone-grown, HasNone-sooner, HasNone-up_to}
+use Rattle.krb_ktutil.proofs.ForAnswers.{◌≡◌, ◌∙◌, length, drop, arith, err_from_is_err_and, HasNone, Grows-trans, IsFirst-earlier, HasNone-earlier, HasNone-grown, HasNone-sooner, HasNone-up_to}
 use Rattle.krb_ktutil.proofs.input_lines.read_to_newline.Goals as goal
 
 -- the newline is beyond what an input may have

@@ -1,5 +1,4 @@
-use Rattle.krb_ktutil.proofs.Cited.{◌≡◌, ◌-◌, first_talk}
-use Rattle.krb_ktutil.proofs.KtutilLemmas.{Underway}
+use Rattle.krb_ktutil.proofs.ForAnswers.{◌≡◌, ◌-◌, first_talk, Underway}
 use Rattle.krb_ktutil.proofs.ktutil.run_ktutil.Given as goal
 
 abbrev pub invariant-lines : goal.invariant-lines

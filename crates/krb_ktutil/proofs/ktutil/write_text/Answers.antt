@@ -1,5 +1,4 @@
-use Rattle.krb_ktutil.proofs.Cited.{sym, ◌∙◌}
-use Rattle.krb_ktutil.proofs.KtutilLemmas.{WritesOn-put}
+use Rattle.krb_ktutil.proofs.ForAnswers.{sym, ◌∙◌, WritesOn-put}
 use Rattle.krb_ktutil.proofs.ktutil.write_text.Goals as goal
 
 pub returns : goal.returns

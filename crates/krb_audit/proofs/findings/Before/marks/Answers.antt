@@ -1,9 +1,8 @@
-use Rattle.krb_audit.proofs.Cited.{◌≡◌, List, ℕ, cond, Option, None, Some, ap, sym, ◌∙◌, ◌∷◌, [], append_assoc, ◌&&◌, ◌||◌, not, list_any, option_map, PlacedEntry, placed_entries, Old, ends_mit, first_number, ap₂, Key, looked, same_key, clashes, first_alike, is_aged, repeats, with_if, Alike}
+use Rattle.krb_audit.proofs.ForAnswers.{◌≡◌, List, ℕ, cond, Option, None, Some, ap, sym, ◌∙◌, ◌∷◌, [], append_assoc, ◌&&◌, ◌||◌, not, list_any, option_map, PlacedEntry, placed_entries, Old, ends_mit, first_number, ap₂, Key, looked, same_key, clashes, first_alike, is_aged, repeats, with_if, Alike, ended_here}
 use Rattle.std.specs.Prelude.{Bool}
 use Rattle.std.specs.Option.{unwrap_or}
 use Rattle.krb_text.specs.Etype.{is_weak}
 use Rattle.krb_findings.specs.declared.finding.Finding.TheVariants.{Weak, Size, Hidden, Same, Clash, Old as OldKey, Aged}
-use Rattle.krb_audit.proofs.FindingsLemmas.{ended_here}
 use Rattle.krb_audit.proofs.FirstsLemmas.{alike_here, alike_to, firsts_next, key_in}
 use Rattle.krb_audit.proofs.findings.Before.marks.Goals as goal
 

@@ -1,6 +1,5 @@
-use Rattle.krb_audit.proofs.Cited.{◌≡◌, ◌+◌, ◌∙◌, Bool, List, ℕ, [], ◌∷◌, ◌++◌, PlacedEntry, arith, sym, ap, subst, length_push, rules, AreMarked}
+use Rattle.krb_audit.proofs.ForAnswers.{◌≡◌, ◌+◌, ◌∙◌, Bool, List, ℕ, [], ◌∷◌, ◌++◌, PlacedEntry, arith, sym, ap, subst, length_push, rules, AreMarked, seen_again, seen_in, seen_next}
 use Rattle.krb_audit.specs.declared.missing.Missing.{Missing}
-use Rattle.krb_audit.proofs.MissingLemmas.{seen_again, seen_in, seen_next}
 use Rattle.krb_audit.proofs.missing.Missing.mark_next.Goals as goal
 use Rattle.krb_audit.proofs.missing.Missing.mark_next.Goals.{then-first-self+in_ok-mark, else-first-self}
 

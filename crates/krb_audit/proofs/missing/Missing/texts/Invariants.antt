@@ -1,5 +1,4 @@
-use Rattle.krb_audit.proofs.Cited.{List, map, take, vec_items, PlacedEntry, IsMissing}
-use Rattle.krb_audit.proofs.MissingLemmas.{AreTaken, seen_in}
+use Rattle.krb_audit.proofs.ForAnswers.{List, map, take, vec_items, PlacedEntry, IsMissing, AreTaken, seen_in}
 use Rattle.krb_audit.proofs.missing.Missing.texts.Given as goal
 
 -- the texts so far were taken

@@ -1,5 +1,4 @@
-use Rattle.krb_audit.proofs.Cited.{◌≡◌, ◌∙◌, refl, ap, rules, name_text, is_among}
-use Rattle.krb_audit.proofs.AskedNames.{some_asked}
+use Rattle.krb_audit.proofs.ForAnswers.{◌≡◌, ◌∙◌, refl, ap, rules, name_text, is_among, some_asked}
 use Rattle.krb_audit.proofs.name_filter.NameFilter.passes.Goals as goal
 
 pub returns : goal.returns

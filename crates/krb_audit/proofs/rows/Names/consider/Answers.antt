@@ -1,5 +1,4 @@
-use Rattle.krb_audit.proofs.Cited.{◌≡◌, ◌∷◌, sym, subst, ◌∙◌, arith, some_is, EntryParts, PlacedEntry, AreNumbered, Names}
-use Rattle.krb_audit.proofs.Numbering.{first_here, numbered_next}
+use Rattle.krb_audit.proofs.ForAnswers.{◌≡◌, ◌∷◌, sym, subst, ◌∙◌, arith, some_is, EntryParts, PlacedEntry, AreNumbered, Names, first_here, numbered_next}
 use Rattle.krb_audit.proofs.rows.Names.consider.Goals as goal
 
 pub returns : goal.returns

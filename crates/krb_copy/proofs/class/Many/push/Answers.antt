@@ -1,6 +1,5 @@
-use Rattle.krb_copy.proofs.Cited.{ap, ◌∙◌, cond, true, Bool, has_among, nat_list_eq_equiv}
+use Rattle.krb_copy.proofs.ForAnswers.{ap, ◌∙◌, cond, true, Bool, has_among, nat_list_eq_equiv, or_added}
 use Rattle.std.proofs.lemmas.Map.Text.{is_eq-slice_cmp}
-use Rattle.krb_copy.proofs.ClassesAfter.{or_added}
 use Rattle.krb_copy.proofs.class.Many.push.Goals as goal
 
 pub returns-clause-keys : goal.returns-clause-keys

@@ -1,5 +1,4 @@
-use Rattle.krb_copy.proofs.Cited.{List, asked_as, renamed, name_in, ◌+◌, drop, subst, arith, PlacedEntry, run_over, drop_all}
-use Rattle.krb_copy.proofs.Runs.{IsOnTheWay, one_met, all_met, ended, first_left}
+use Rattle.krb_copy.proofs.ForAnswers.{List, asked_as, renamed, name_in, ◌+◌, drop, subst, arith, PlacedEntry, run_over, drop_all, IsOnTheWay, one_met, all_met, ended, first_left}
 use Rattle.krb_copy.proofs.copy.Copying.go_over.Goals as goal
 
 pub returns-in-Err : goal.returns-in-Err

@@ -1,5 +1,4 @@
-use Rattle.krb_copy.proofs.Cited.{drop, Run, asked_as, name_in, run_over, IsRun}
-use Rattle.krb_copy.proofs.Runs.{IsOnTheWay}
+use Rattle.krb_copy.proofs.ForAnswers.{drop, Run, asked_as, name_in, run_over, IsRun, IsOnTheWay}
 use Rattle.krb_copy.proofs.copy.Copying.go_over.Given as goal
 
 -- the run over the entries that are left comes to what the whole run comes to

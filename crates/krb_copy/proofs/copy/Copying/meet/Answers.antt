@@ -1,6 +1,4 @@
-use Rattle.krb_copy.proofs.Cited.{◌++◌, ◌∷◌, [], List, ℕ, refl, sym, ap, ◌∙◌, PlacedEntry, run_after, clash_line, copied_lines, err_from_is_err_and, Kept}
-use Rattle.krb_copy.proofs.ClassesAfter.{after_clash, after_copy, after_there, met, step_is}
-use Rattle.krb_copy.proofs.Runs.{copied_run, refused_run}
+use Rattle.krb_copy.proofs.ForAnswers.{◌++◌, ◌∷◌, [], List, ℕ, refl, sym, ap, ◌∙◌, PlacedEntry, run_after, clash_line, copied_lines, err_from_is_err_and, Kept, after_clash, after_copy, after_there, met, step_is, copied_run, refused_run}
 use Rattle.krb_copy.proofs.copy.Copying.meet.Goals as goal
 
 pub returns-in_err-place-in-Copy-clause-meets : goal.returns-in_err-place-in-Copy-clause-meets

@@ -1,5 +1,4 @@
-use Rattle.krb_copy.proofs.Cited.{◌∙◌, ◌∷◌, [], None, ap, sym, subst, ◌++◌, ◌<◌, length, take, arith, take_all, take_more, List, ℕ, length-replicate, AreKeys, Row}
-use Rattle.krb_copy.proofs.DiffKeys.{none_added, resized, row_below}
+use Rattle.krb_copy.proofs.ForAnswers.{◌∙◌, ◌∷◌, [], None, ap, sym, subst, ◌++◌, ◌<◌, length, take, arith, take_all, take_more, List, ℕ, length-replicate, AreKeys, Row, none_added, resized, row_below}
 use Rattle.krb_copy.proofs.diff.Keys.of.Goals as goal
 
 pub rows-init : goal.rows-init

@@ -1,5 +1,4 @@
-use Rattle.krb_copy.proofs.Cited.{◌∙◌, sym, ap, refl, cond, true, false, Bool, ◌&&◌, ◌==◌, bytes_eq, contains_by, not-false, nat_list_eq_equiv, bytes_eq-Decides, to_key, names_tie}
-use Rattle.krb_copy.proofs.DiffKeys.{first_added, key_added, key_known}
+use Rattle.krb_copy.proofs.ForAnswers.{◌∙◌, sym, ap, refl, cond, true, false, Bool, ◌&&◌, ◌==◌, bytes_eq, contains_by, not-false, nat_list_eq_equiv, bytes_eq-Decides, to_key, names_tie, first_added, key_added, key_known}
 use Rattle.krb_copy.proofs.diff.Keys.push.Goals as goal
 
 pub returns-in-None-clause-keys : goal.returns-in-None-clause-keys

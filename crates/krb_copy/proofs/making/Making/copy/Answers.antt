@@ -1,5 +1,4 @@
-use Rattle.krb_copy.proofs.Cited.{◌≡◌, take, length, sym, ap, ◌∙◌, arith, List, ℕ, flat_map, KeytabState, put_result, removed_line, take_at}
-use Rattle.krb_copy.proofs.Runs.{refusal_is}
+use Rattle.krb_copy.proofs.ForAnswers.{◌≡◌, take, length, sym, ap, ◌∙◌, arith, List, ℕ, flat_map, KeytabState, put_result, removed_line, take_at, refusal_is}
 use Rattle.krb_copy.proofs.making.Making.copy.Goals as goal
 
 pub returns-in-Ok-clause-added : goal.returns-in-Ok-clause-added

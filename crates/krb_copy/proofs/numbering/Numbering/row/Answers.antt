@@ -1,6 +1,4 @@
-use Rattle.krb_copy.proofs.Cited.{◌∙◌, ap, ◌∷◌, [], append_assoc, arith, name_text, name_texts, PlacedEntry, unwrap_or, length_push}
-use Rattle.krb_copy.proofs.ClassKeys.{key_of_fields}
-use Rattle.krb_copy.proofs.Numbers.{numbers_next, row_is}
+use Rattle.krb_copy.proofs.ForAnswers.{◌∙◌, ap, ◌∷◌, [], append_assoc, arith, name_text, name_texts, PlacedEntry, unwrap_or, length_push, key_of_fields, numbers_next, row_is}
 use Rattle.krb_copy.proofs.numbering.Numbering.row.Goals as goal
 
 pub returns : goal.returns

@@ -1,5 +1,4 @@
-use Rattle.krb_copy.proofs.Cited.{◌∙◌, sym, ap, subst, List, ◌++◌, ◌+◌, drop, take, map, arith, append-nil, take_all, drop_all, PlacedEntry, IsNumbering, rows_due, shown}
-use Rattle.krb_copy.proofs.Numbers.{drop_here, one_more, take_here}
+use Rattle.krb_copy.proofs.ForAnswers.{◌∙◌, sym, ap, subst, List, ◌++◌, ◌+◌, drop, take, map, arith, append-nil, take_all, drop_all, PlacedEntry, IsNumbering, rows_due, shown, drop_here, one_more, take_here}
 use Rattle.krb_copy.proofs.numbering.Numbering.rows.Goals as goal
 
 pub entries-preserved : goal.entries-preserved

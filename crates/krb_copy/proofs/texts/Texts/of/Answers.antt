@@ -1,5 +1,4 @@
-use Rattle.krb_copy.proofs.Cited.{PlacedEntry, placed_entries, entry_texts}
-use Rattle.krb_copy.proofs.FoundTexts.{one_appended}
+use Rattle.krb_copy.proofs.ForAnswers.{PlacedEntry, placed_entries, entry_texts, one_appended}
 use Rattle.krb_copy.proofs.texts.Texts.of.Goals as goal
 
 pub entries-preserved : goal.entries-preserved

@@ -1,5 +1,4 @@
-use Rattle.krb_copy.proofs.Cited.{placed_entries}
-use Rattle.krb_copy.proofs.FoundTexts.{AreAppended}
+use Rattle.krb_copy.proofs.ForAnswers.{placed_entries, AreAppended}
 use Rattle.krb_copy.proofs.texts.Texts.of.Given as goal
 
 -- the texts of the entries so far were appended, and the others are still to come

@@ -1,5 +1,4 @@
-use Rattle.krb_copy.proofs.Cited.{◌++◌, ◌∷◌, [], List, take, subst, arith, name_text, PlacedEntry, AreTexts, name_texts, take_all, Parts}
-use Rattle.krb_copy.proofs.FoundTexts.{one_asked}
+use Rattle.krb_copy.proofs.ForAnswers.{◌++◌, ◌∷◌, [], List, take, subst, arith, name_text, PlacedEntry, AreTexts, name_texts, take_all, Parts, one_asked}
 use Rattle.krb_copy.proofs.texts.Texts.push_names.Goals as goal
 
 pub asked-preserved : goal.asked-preserved

@@ -1,5 +1,4 @@
-use Rattle.krb_copy.proofs.Cited.{[], List, Option, None, Some, ◌≡◌, ap, sym, subst, name_text, PlacedEntry, AllByRecursion, AreTexts, asked_as, asked_texts, name_in, name_texts, principal_parts, Parts}
-use Rattle.krb_copy.proofs.FoundTexts.{new_names, own_names}
+use Rattle.krb_copy.proofs.ForAnswers.{[], List, Option, None, Some, ◌≡◌, ap, sym, subst, name_text, PlacedEntry, AllByRecursion, AreTexts, asked_as, asked_texts, name_in, name_texts, principal_parts, Parts, new_names, own_names}
 use Rattle.krb_copy.proofs.texts.TextsLeft.names.Goals as goal
 
 pub returns-in-None : goal.returns-in-None

@@ -1,5 +1,4 @@
-use Rattle.krb_driver.proofs.Cited.{arith, ◌<◌, ◌≤◌, length, take_all, failure_words}
-use Rattle.krb_driver.proofs.Shown.{Adds-none, Adds-piece}
+use Rattle.krb_driver.proofs.ForAnswers.{arith, ◌<◌, ◌≤◌, length, take_all, failure_words, Adds-none, Adds-piece}
 use Rattle.krb_driver.proofs.reporting.ending_words.add_failures.Goals as goal
 
 pub failures-init : goal.failures-init

@@ -1,5 +1,4 @@
-use Rattle.krb_driver.proofs.Cited.{arith, ◌<◌, ◌≤◌, length, take_all, FINDINGS, word_line}
-use Rattle.krb_driver.proofs.Shown.{Adds-none, Adds-piece}
+use Rattle.krb_driver.proofs.ForAnswers.{arith, ◌<◌, ◌≤◌, length, take_all, FINDINGS, word_line, Adds-none, Adds-piece}
 use Rattle.krb_driver.proofs.reporting.ending_words.add_word_lines.Goals as goal
 
 pub findings-init : goal.findings-init

@@ -1,5 +1,4 @@
-use Rattle.krb_driver.proofs.Cited.{◌≡◌, arith, etype_option}
-use Rattle.krb_driver.proofs.Shown.{Adds-none, Adds-number}
+use Rattle.krb_driver.proofs.ForAnswers.{◌≡◌, arith, etype_option, Adds-none, Adds-number}
 use Rattle.krb_driver.proofs.reporting.hints.add_etypes.Goals as goal
 
 pub etypes-init : goal.etypes-init

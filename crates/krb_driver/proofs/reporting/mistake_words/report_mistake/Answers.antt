@@ -1,6 +1,4 @@
-use Rattle.krb_driver.proofs.Cited.{ℕ, List, ◌++◌, ap, ◌∙◌, codes, option_map, pieces_text, help_of, mistake_line, mistake_parts}
-use Rattle.krb_driver.proofs.Shown.{Adds-then, Writes-two}
-use Rattle.krb_driver.proofs.Words.{pieces_text-append}
+use Rattle.krb_driver.proofs.ForAnswers.{ℕ, List, ◌++◌, ap, ◌∙◌, codes, option_map, pieces_text, help_of, mistake_line, mistake_parts, Adds-then, Writes-two, pieces_text-append}
 use Rattle.krb_driver.proofs.reporting.mistake_words.report_mistake.Goals as goal
 
 -- what is wrong, and after it the help and what follows

@@ -1,5 +1,4 @@
-use Rattle.krb_driver.proofs.Cited.{arith, ◌<◌, ◌≤◌, length, take_all, byte_text}
-use Rattle.krb_driver.proofs.Shown.{Adds-none, Adds-piece}
+use Rattle.krb_driver.proofs.ForAnswers.{arith, ◌<◌, ◌≤◌, length, take_all, byte_text, Adds-none, Adds-piece}
 use Rattle.krb_driver.proofs.reporting.writing.add_bytes.Goals as goal
 
 pub bytes-init : goal.bytes-init

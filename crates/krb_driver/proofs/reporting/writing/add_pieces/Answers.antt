@@ -1,5 +1,4 @@
-use Rattle.krb_driver.proofs.Cited.{arith, ◌<◌, ◌≤◌, length, take_all, piece_text}
-use Rattle.krb_driver.proofs.Shown.{Adds-none, Adds-piece}
+use Rattle.krb_driver.proofs.ForAnswers.{arith, ◌<◌, ◌≤◌, length, take_all, piece_text, Adds-none, Adds-piece}
 use Rattle.krb_driver.proofs.reporting.writing.add_pieces.Goals as goal
 
 pub pieces-init : goal.pieces-init

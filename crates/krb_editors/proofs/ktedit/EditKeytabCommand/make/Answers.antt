@@ -1,5 +1,4 @@
-use Rattle.krb_editors.proofs.Cited.{ap, inl, inr, ◌∙◌, Err, list_any, err_from_is_err_and, KeytabState, may_change, RunError, fair_first, Fails, IsSpent, can_hold, opens, Ends, fairly-failed, fairly-holds, makes-fairly, keytab_or_empty}
-use Rattle.krb_editors.specs.Ktedit.{RunsFairly, edits}
+use Rattle.krb_editors.proofs.ForAnswers.{ap, inl, inr, ◌∙◌, Err, list_any, err_from_is_err_and, KeytabState, may_change, RunError, fair_first, Fails, IsSpent, can_hold, opens, Ends, fairly-failed, fairly-holds, makes-fairly, keytab_or_empty, RunsFairly, edits}
 use Rattle.krb_editors.proofs.ktedit.EditKeytabCommand.make.Goals as goal
 
 -- nothing was opened

@@ -1,5 +1,4 @@
-use Rattle.krb_json.proofs.Cited.{◌<◌, ◌^◌, sym, rules, on_ok_weaker}
-use Rattle.krb_json.proofs.ReadBack.{about_is_plain}
+use Rattle.krb_json.proofs.ForAnswers.{◌<◌, ◌^◌, sym, rules, on_ok_weaker, about_is_plain}
 use Rattle.krb_json.proofs.piece.Piece.about_entry.Goals as goal
 
 pub returns-clause-plain : goal.returns-clause-plain

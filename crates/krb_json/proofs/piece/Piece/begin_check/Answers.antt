@@ -1,5 +1,4 @@
-use Rattle.krb_json.proofs.Cited.{rules, on_ok_weaker}
-use Rattle.krb_json.proofs.ReadBack.{head_is_plain}
+use Rattle.krb_json.proofs.ForAnswers.{rules, on_ok_weaker, head_is_plain}
 use Rattle.krb_json.proofs.piece.Piece.begin_check.Goals as goal
 
 pub returns-clause-plain : goal.returns-clause-plain

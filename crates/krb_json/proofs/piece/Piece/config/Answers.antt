@@ -1,5 +1,4 @@
-use Rattle.krb_json.proofs.Cited.{rules, on_ok_weaker, config_parts}
-use Rattle.krb_json.proofs.ReadBack.{config_is_plain}
+use Rattle.krb_json.proofs.ForAnswers.{rules, on_ok_weaker, config_parts, config_is_plain}
 use Rattle.krb_json.proofs.piece.Piece.config.Goals as goal
 
 pub returns-clause-plain : goal.returns-clause-plain

@@ -1,6 +1,5 @@
+use Rattle.krb_json.proofs.ForAnswers.{written_by_four, entry_is_plain}
 use Rattle.krb_json.proofs.Cited.{codes, ◌<◌, ◌^◌, sym, rules, on_ok_weaker, etype_members, number_of, owner_members, key_members, entry_value}
-use Rattle.krb_json.proofs.Chains.{written_by_four}
-use Rattle.krb_json.proofs.ReadBack.{entry_is_plain}
 use Rattle.krb_json.proofs.piece.Piece.entry.Goals as goal
 
 pub returns-clause-tokens : goal.returns-clause-tokens

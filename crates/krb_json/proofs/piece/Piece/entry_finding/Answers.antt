@@ -1,7 +1,6 @@
-use Rattle.krb_json.proofs.Cited.{codes, on_ok_weaker, about_members}
+use Rattle.krb_json.proofs.ForAnswers.{codes, on_ok_weaker, about_members, written_by_one}
 use Rattle.krb_findings.specs.Table.{row_of}
 use Rattle.json.specs.Json as json
-use Rattle.krb_json.proofs.Chains.{written_by_one}
 use Rattle.krb_json.proofs.piece.Piece.entry_finding.Goals as goal
 
 pub returns-clause-tokens : goal.returns-clause-tokens

@@ -1,7 +1,5 @@
-use Rattle.krb_json.proofs.Cited.{rules, codes, ◌∷◌, [], on_ok_weaker, begin_object, end_object, key, string, boolean, number_of, text_member, name_text, member_tokens}
+use Rattle.krb_json.proofs.ForAnswers.{rules, codes, ◌∷◌, [], on_ok_weaker, begin_object, end_object, key, string, boolean, number_of, text_member, name_text, member_tokens, chain, summary_is_read}
 use Rattle.krb_json.specs.Summary.{number_or_null, summary_value}
-use Rattle.krb_json.proofs.Chains.{chain}
-use Rattle.krb_json.proofs.ReadBack.{summary_is_read}
 use Rattle.krb_json.proofs.piece.Piece.summary.Goals as goal
 
 pub returns-clause-tokens : goal.returns-clause-tokens

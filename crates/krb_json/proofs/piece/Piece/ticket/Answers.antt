@@ -1,6 +1,5 @@
+use Rattle.krb_json.proofs.ForAnswers.{written_by_five, ticket_is_plain}
 use Rattle.krb_json.proofs.Cited.{◌<◌, ◌^◌, sym, rules, on_ok_weaker, etype_members, party_members, time_members, flag_members, size_members, ticket_value}
-use Rattle.krb_json.proofs.Chains.{written_by_five}
-use Rattle.krb_json.proofs.ReadBack.{ticket_is_plain}
 use Rattle.krb_json.proofs.piece.Piece.ticket.Goals as goal
 
 pub returns-clause-tokens : goal.returns-clause-tokens

@@ -1,5 +1,4 @@
-use Rattle.krb_ktutil.proofs.Cited.{◌≡◌, refl, inl, inr, length, arith}
-use Rattle.krb_ktutil.proofs.InputLemmas.{EndsInNewline-first, TakesLine-first, ReadsLine-last}
+use Rattle.krb_ktutil.proofs.ForAnswers.{◌≡◌, refl, inl, inr, length, arith, EndsInNewline-first, TakesLine-first, ReadsLine-last}
 use Rattle.krb_ktutil.proofs.input_lines.InputLines.read_line.Goals as goal
 
 -- the line up to the newline

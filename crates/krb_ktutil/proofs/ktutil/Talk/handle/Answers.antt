@@ -1,6 +1,4 @@
-use Rattle.krb_ktutil.proofs.Cited.{refl, Some, line_effect, plan_of, HandlesLine, Talk, goes_on}
-use Rattle.krb_ktutil.proofs.KtutilDue.{makes_keeps}
-use Rattle.krb_ktutil.proofs.KtutilLemmas.{HandlesNext-by}
+use Rattle.krb_ktutil.proofs.ForAnswers.{refl, Some, line_effect, plan_of, HandlesLine, Talk, goes_on, makes_keeps, HandlesNext-by}
 use Rattle.krb_ktutil.proofs.ktutil.Talk.handle.Goals as goal
 
 -- the end of a line decides whether another may come, and the output

@@ -1,5 +1,4 @@
-use Rattle.krb_ktutil.proofs.Cited.{arith, nat_tests}
-use Rattle.krb_ktutil.proofs.WordLemmas.{first_word, no_words}
+use Rattle.krb_ktutil.proofs.ForAnswers.{arith, nat_tests, first_word, no_words}
 use Rattle.krb_ktutil.proofs.ktutil.words.next_word.Goals as goal
 
 pub returns-then-is_empty-clause-cut : goal.returns-then-is_empty-clause-cut

@@ -1,5 +1,4 @@
-use Rattle.krb_ktutil.proofs.Cited.{arith, add-one}
-use Rattle.krb_ktutil.proofs.WordLemmas.{size_from-step}
+use Rattle.krb_ktutil.proofs.ForAnswers.{arith, add-one, size_from-step}
 use Rattle.krb_ktutil.proofs.ktutil.words.word_size.Goals as goal
 
 pub loop-size-preserved : goal.loop-size-preserved

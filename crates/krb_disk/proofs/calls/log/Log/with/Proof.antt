@@ -1,35 +1,14 @@
 -- `with` makes a value of no bytes, at the list with one more entry.
-use mathlib.Core.Path.{refl}
-use mathlib.Core.List.{[], ◌∷◌}
-use seplogic.Ra.Ura.{Ura}
+use Rattle.krb_disk.proofs.ForAnswers.{refl, [], ◌∷◌, Ura, Val, vptr, vstruct, vnil, SProp, ent, emp, via, fst∗, Memory, Routine, Calls, Loops, WpFn, Tables, Logic, Fun, WpFn-mono, ‵, raw, ◌$◌, ◌∵◌, !, qed, move, suffices, done, no_more, returns, enter, agg, alloc_all, pass_all, free_all, look_at, sets, owns, pure_i, on_entry, alive, Args, Meets, triple_of, entered, says, stay_none_ref, stay_none_slice, Stays, walk_of, Walks, ends_at, walked, Goes-none_ref, Goes-none_slice, walk_Meets, ◌<◌, ◌^◌, length}
 use mir.Syntax.{named}
-use mir.Val.{Val, vptr, vstruct, vnil}
-use base.Logic.{SProp, ent, emp, via, fst∗}
 use base.Fml.{Fml}
-use prog.Memory.{Memory}
-use prog.Routine.{Routine}
-use prog.Wp.{Calls, Loops, WpFn, Tables}
-use types.Logic.{Logic}
 use contract.Lifetimes.{Lfts, Shares}
-use contract.Monad.{Fun}
 use contract.Running.{tables, tables_of}
-use sound.WpLaws.{WpFn-mono}
-use types.Kit.{‵, raw, ◌$◌, ◌∵◌, !, qed, move, suffices, done}
-use types.Run.{no_more, returns, enter}
-use types.Part.{agg}
-use types.ByLocal.{alloc_all, pass_all, free_all, look_at, sets}
 use denote.Builtin.{u8}
 use denote.Exit.{yes}
-use denote.RattleType.{owns}
 use denote.Ref.{shr_vals, shr_Tells}
-use denote.Shadow.{pure_i}
 use denote.Signature.{plain, types_at}
 use denote.Slice.{slice_val, shr_slice_vals, shr_slice_Tells}
-use denote.Triple.Entry.{on_entry, alive, Args}
-use denote.Triple.Spec.{Meets, triple_of}
-use denote.Triple.Table.{entered}
-use denote.Triple.Walked.{says, stay_none_ref, stay_none_slice, Stays, walk_of, Walks, ends_at, walked, Goes-none_ref, Goes-none_slice, walk_Meets}
-use Rattle.std.proofs.Common.{◌<◌, ◌^◌, length}
 use Rattle.krb_disk.specs.contracts.calls.log.Log.with.Key.{name as key}
 use Rattle.krb_disk.specs.contracts.calls.log.Log.with as f
 use Rattle.krb_disk.proofs.calls.log.Log.with.Statement as stated

@@ -1,5 +1,4 @@
-use Rattle.krb_ktutil.proofs.Cited.{sym, ap, ◌∙◌, List, ℕ, ◌∷◌, words, options_in}
-use Rattle.krb_ktutil.proofs.WordLemmas.{options_in_word}
+use Rattle.krb_ktutil.proofs.ForAnswers.{sym, ap, ◌∙◌, List, ℕ, ◌∷◌, words, options_in, options_in_word}
 use Rattle.krb_ktutil.proofs.ktutil.options.AddOptions.take.Goals as goal
 
 pub returns-clause-more : goal.returns-clause-more

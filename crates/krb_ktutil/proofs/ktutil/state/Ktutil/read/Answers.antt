@@ -1,6 +1,5 @@
-use Rattle.krb_ktutil.proofs.Cited.{◌≡◌, true, inl, refl, sym, ap, ◌∙◌, List, ℕ, Ends, Fails, fails, bare_name, is_other_type, OtherType, Keytab}
+use Rattle.krb_ktutil.proofs.ForAnswers.{◌≡◌, true, inl, refl, sym, ap, ◌∙◌, List, ℕ, Ends, Fails, fails, bare_name, is_other_type, OtherType, Keytab, makes_end}
 use Rattle.krb_driver.specs.declared.file_name.NameSource.TheVariants.{Word}
-use Rattle.krb_ktutil.proofs.KtutilHandles.{makes_end}
 use Rattle.krb_ktutil.proofs.ktutil.state.Ktutil.read.Goals as goal
 
 -- the word's type is not read

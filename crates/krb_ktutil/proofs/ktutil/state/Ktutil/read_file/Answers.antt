@@ -1,5 +1,4 @@
-use Rattle.krb_ktutil.proofs.Cited.{ap, refl, inl, Ok, Err, KtutilState}
-use Rattle.krb_ktutil.proofs.KtutilHandles.{makes_read}
+use Rattle.krb_ktutil.proofs.ForAnswers.{ap, refl, inl, Ok, Err, KtutilState, makes_read}
 use Rattle.krb_ktutil.proofs.ktutil.state.Ktutil.read_file.Goals as goal
 
 pub returns-in-Ok : goal.returns-in-Ok

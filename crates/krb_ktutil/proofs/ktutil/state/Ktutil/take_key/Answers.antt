@@ -1,5 +1,4 @@
-use Rattle.krb_ktutil.proofs.Cited.{◌≡◌, ◌∙◌, [], ap, inl, subst, sym, IfSome, Ok, Err, Ends, Awaiting, Nothing, Awaited, EndsAt, line_effect, KtutilState, Key, awaited_entry, with_key}
-use Rattle.krb_ktutil.proofs.KtutilDue.{key_ends}
+use Rattle.krb_ktutil.proofs.ForAnswers.{◌≡◌, ◌∙◌, [], ap, inl, subst, sym, IfSome, Ok, Err, Ends, Awaiting, Nothing, Awaited, EndsAt, line_effect, KtutilState, Key, awaited_entry, with_key, key_ends}
 use Rattle.krb_ktutil.proofs.ktutil.state.Ktutil.take_key.Goals as goal
 
 pub returns-in-Ok : goal.returns-in-Ok

@@ -1,5 +1,4 @@
-use Rattle.krb_ktutil.proofs.Cited.{ap, sym, ◌∙◌, refl, inl, Ok, Err, KtutilState}
-use Rattle.krb_ktutil.proofs.KtutilHandles.{makes_written}
+use Rattle.krb_ktutil.proofs.ForAnswers.{ap, sym, ◌∙◌, refl, inl, Ok, Err, KtutilState, makes_written}
 use Rattle.krb_ktutil.proofs.ktutil.state.Ktutil.write_held.Goals as goal
 
 pub returns-in-Ok : goal.returns-in-Ok

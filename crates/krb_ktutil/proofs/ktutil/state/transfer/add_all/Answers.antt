@@ -1,5 +1,4 @@
-use Rattle.krb_ktutil.proofs.Cited.{sym, ap, ◌∙◌, Ok, List, drop, ◌∷◌, err_from_is_err_and, EntryParts, Added, none_added, with_added, suc, drop-cons}
-use Rattle.krb_ktutil.proofs.KtutilHandles.{refuses_added}
+use Rattle.krb_ktutil.proofs.ForAnswers.{sym, ap, ◌∙◌, Ok, List, drop, ◌∷◌, err_from_is_err_and, EntryParts, Added, none_added, with_added, suc, drop-cons, refuses_added}
 use Rattle.krb_ktutil.proofs.ktutil.state.transfer.add_all.Goals as goal
 
 pub returns-in_err-place-clause-err : goal.returns-in_err-place-clause-err

@@ -1,5 +1,4 @@
-use Rattle.krb_ktutil.proofs.Cited.{ap, ◌∙◌}
-use Rattle.krb_ktutil.proofs.KtutilHandles.{entries_of, all_entries}
+use Rattle.krb_ktutil.proofs.ForAnswers.{ap, ◌∙◌, entries_of, all_entries}
 use Rattle.krb_ktutil.proofs.ktutil.state.transfer.copy_entries.Goals as goal
 
 pub entries-init : goal.entries-init

@@ -1,5 +1,4 @@
-use Rattle.krb_ktutil.proofs.Cited.{◌≡◌, ◌++◌, entries}
-use Rattle.krb_ktutil.proofs.KtutilHandles.{entries_of}
+use Rattle.krb_ktutil.proofs.ForAnswers.{◌≡◌, ◌++◌, entries, entries_of}
 use Rattle.krb_ktutil.proofs.ktutil.state.transfer.copy_entries.Given as goal
 
 -- the copies so far, and the entries that are still to come, are those of the keytab

@@ -1,5 +1,4 @@
-use Rattle.krb_ktutil.proofs.Cited.{Ok, Added}
-use Rattle.krb_ktutil.proofs.KtutilHandles.{comes_added}
+use Rattle.krb_ktutil.proofs.ForAnswers.{Ok, Added, comes_added}
 use Rattle.krb_ktutil.proofs.ktutil.state.transfer.write_to.Goals as goal
 
 -- the keytab is to be saved
