@@ -18,7 +18,7 @@ BREAKS = ("crates/krb_editors", "crates/krb_readers", "crates/krb_ktutil", "crat
 
 ALL = range(5_000)  # the entries, tickets or values of a file
 NAMES = [f"{number:02}@R" for number in range(50)]  # of entries and tickets, in turn; each name has a hundred versions
-TOLD = "{place} kvno {kvno} etype 17 {name}"  # an entry in a line that reports it
+ENTRY = "{place} kvno {kvno} etype 17 {name}"  # an entry in a line that reports it
 BY_NAME = " ".join(f"-p {name}" for name in NAMES)
 ASKED = " ".join((BY_NAME, *(f"-e {etype}" for etype in range(50))))
 WANTED = " ".join((*(f"--want {name}" for name in NAMES), *(f"--allow {finding}" for finding in FINDINGS)))
@@ -54,16 +54,16 @@ CASES = [
             "k: keytab, 5000 keys of 5000 principals", TABLE, *lines(KEYS + "{number:04}@R"),
             *["", "j: keytab, 1 key of 1 principal", TABLE, KEYS + "b@R"] * 60]), setting=for_owner),
     lambda: over_files("ktcheck", f"{WANTED} k{OTHERS}", {"k": K, "j": J}, text([
-        *lines("k: old " + TOLD)[:-50], "k: entries 5000 free 0 holes 0", *labelled(
+        *lines("k: old " + ENTRY)[:-50], "k: entries 5000 free 0 holes 0", *labelled(
             j=[*(f"missing {name}" for name in NAMES), "entries 1 free 0 holes 0"]) * 60]),
                        *words("k", "old"), *words("j", "missing"), setting=for_owner),
-    lambda: row("ktfind k 100 17 49@R", lines("found " + TOLD)[-1:], k=K),
-    lambda: row(f"ktdiff {ASKED} k t", printed(*lines("! {place} " + TOLD), status=1), k=K, t=T),
-    lambda: row(f"ktremove {ASKED} k{OTHERS}", lines("k: removed " + TOLD), {"k": keytab(*[42] * len(ALL))}, k=K, j=J),
+    lambda: row("ktfind k 100 17 49@R", lines("found " + ENTRY)[-1:], k=K),
+    lambda: row(f"ktdiff {ASKED} k t", printed(*lines("! {place} " + ENTRY), status=1), k=K, t=T),
+    lambda: row(f"ktremove {ASKED} k{OTHERS}", lines("k: removed " + ENTRY), {"k": keytab(*[42] * len(ALL))}, k=K, j=J),
     lambda: over("58,000 places", "ktremove -p @ k", old(*[Entry((), b"", key=b"", version32=None)] * 58_000),
                  [f"removed {2 + 17 * at} kvno 3 etype 17 @" for at in range(58_000)], old(*[13] * 58_000)),
-    lambda: row(f"ktcopy {ASKED} k t", lines("copied " + TOLD), {"t": K}, k=K),
-    lambda: row("ktcopy --replace k t", lines(f"removed {TOLD}\ncopied {TOLD}"), {"t": K}, k=K, t=T),
+    lambda: row(f"ktcopy {ASKED} k t", lines("copied " + ENTRY), {"t": K}, k=K),
+    lambda: row("ktcopy --replace k t", lines(f"removed {ENTRY}\ncopied {ENTRY}"), {"t": K}, k=K, t=T),
     lambda: row("ktedit k", lines("gone {place}\nplaced {place}"), {"k": T}, text(lines(
         f"cut {{place}}\nadd {{kvno}} 17 0 {'00' * 16} {{name}}")), k=K),
     lambda: row("ktutil", [*ktutil_lines.HEADING, *lines("{slot:4} {kvno:4} {name}")], {"n": K},
