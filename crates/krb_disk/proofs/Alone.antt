@@ -48,7 +48,7 @@ works call m n u turns makes earlier alone cleared = record { failed = u; turns 
 
 pub saves_in_place : SavesInPlace
 saves_in_place =
-    let start = moment place.Untouched 0 [] false in
+    let first = moment place.Untouched 0 [] false in
     let quiet = moment place.Quiet 0 [] false in
     let same = moment place.Same 0 [] true in
     let ready = moment place.Ready 0 (content 0 ∷ []) true in
@@ -56,23 +56,13 @@ saves_in_place =
     let cut = moment place.Cut 1 (content 1 ∷ (content 0 ∷ (content 0 ∷ []))) true in
     let finished = moment place.Finished 1 [] true in
     let saved = moment place.Saved 1 (content 1 ∷ []) true in
-    let watches = works Watch start quiet place.Untouched (refl, refl, refl) (λ i. refl) refl refl refl in
+    let watches = works Watch first quiet place.Untouched (refl, refl, refl) (λ i. refl) refl refl refl in
     let passes = works Pass same ready place.Same (refl, refl, refl, refl) (λ i. refl) refl refl refl in
     let writes = works Overwrite ready written place.Mixed (refl, refl, refl) (λ i. record { within = λ past before. refl; front = λ before. absurd (omega (arith, before)); back = past_both i }) refl refl refl in
     let cuts = works Shorten written cut place.Torn (refl, refl, refl) (λ i. refl) refl refl refl in
     let finishes = works Finish cut finished place.Torn (refl, refl, refl) (λ i. refl) refl refl refl in
     let confirms = works Confirm finished saved place.Finished (refl, refl, refl) (λ i. refl) refl refl refl in
-    record {
-      save = byte;
-      events = Do Confirm ∷ (Do Finish ∷ (Do Shorten ∷ (Do Overwrite ∷ (Do Pass ∷ (Compare ∷ (Do Watch ∷ []))))));
-      now = saved;
-      patch = patch;
-      differs = omega arith;
-      alone = tt;
-      leads = (finished, ((cut, ((written, ((ready, ((same, ((quiet, ((start, ((refl, refl), watches)), record { due = refl; has = λ i. refl; synced = refl; now = refl })), passes)), writes)), cuts)), finishes)), confirms));
-      is_alone = refl;
-      saved = refl;
-    }
+    (byte, Do Confirm ∷ (Do Finish ∷ (Do Shorten ∷ (Do Overwrite ∷ (Do Pass ∷ (Compare ∷ (Do Watch ∷ [])))))), saved, patch, omega arith, tt, (finished, ((cut, ((written, ((ready, ((same, ((quiet, ((first, ((refl, refl), watches)), record { due = refl; has = λ i. refl; synced = refl; now = refl })), passes)), writes)), cuts)), finishes)), confirms)), refl, refl)
 
 -- ---- a new file
 
@@ -133,11 +123,4 @@ saves =
     let q = next (disk.Watch true) (disk.Sync ∷ written) (beside (Synced None) synced) (beside (Quiet None) synced) s (asks (disk.Watch true) (Synced None) (Quiet None) synced synced (refl, refl)) in
     let o = next disk.AtPath watched (beside (Quiet None) synced) (beside (Ours None) synced) q (asks disk.AtPath (Quiet None) (Ours None) synced synced (refl, refl)) in
     let c = next disk.Compare (disk.AtPath ∷ watched) (beside (Ours None) synced) compared o (record { due = refl; snapshot = refl; now = refl }) in
-    record {
-      save = made;
-      calls = disk.Rename ∷ (disk.Compare ∷ (disk.AtPath ∷ watched));
-      now = done;
-      alone = refl;
-      happens = next disk.Rename (disk.Compare ∷ (disk.AtPath ∷ watched)) compared done c (record { due = tt; named = refl; others = λ name p q. elsewhere (codes "f") name synced p ∙ sym (elsewhere (codes "f.krbfile") name synced q); now = refl });
-      saved = refl;
-    }
+    (made, disk.Rename ∷ (disk.Compare ∷ (disk.AtPath ∷ watched)), done, refl, next disk.Rename (disk.Compare ∷ (disk.AtPath ∷ watched)) compared done c (record { due = tt; named = refl; others = λ name p q. elsewhere (codes "f") name synced p ∙ sym (elsewhere (codes "f.krbfile") name synced q); now = refl }), refl)

@@ -161,10 +161,5 @@ EachMomentIsSafe = (save : Save) (calls : List Call) (now : Moment) (left : Name
     → Happens save calls now → ((name : List ℕ) → IsLeft (now.names name) (left name)) → IsSafe save calls now left
 
 -- the law is about saves that are made: one of this program alone renames its file
-pub record Saves : Type 0 where
-  pub save : Save
-  pub calls : List Call
-  pub now : Moment
-  pub alone : own calls ≡ calls
-  pub happens : Happens save calls now
-  pub saved : now.saved ≡ true
+abbrev pub Saves : Type 0
+Saves = (save : Save) × (calls : List Call) × (now : Moment) × (own calls ≡ calls) × Happens save calls now × (now.saved ≡ true)

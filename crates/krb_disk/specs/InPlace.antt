@@ -185,13 +185,6 @@ IsAlone (Intrude ∷ events) = ⊥
 IsAlone (event ∷ events) = IsAlone events
 
 -- the law is about runs of this program alone too: one writes over a byte, and is saved
-pub record SavesInPlace : Type 0 where
-  pub save : PlaceSave
-  pub events : List Event
-  pub now : PlaceMoment
-  pub patch : IsPatch save.old save.new save.first save.last
-  pub differs : save.first < save.last
-  pub alone : IsAlone events
-  pub leads : Leads save events now
-  pub is_alone : now.alone ≡ true
-  pub saved : now.stage ≡ Saved
+abbrev pub SavesInPlace : Type 0
+SavesInPlace = (save : PlaceSave) × (events : List Event) × (now : PlaceMoment) × IsPatch save.old save.new save.first save.last
+    × (save.first < save.last) × IsAlone events × Leads save events now × (now.alone ≡ true) × (now.stage ≡ Saved)
