@@ -20,8 +20,8 @@ LONG = ("json", "for=", "v1-big", "in-place", "allow=", "older=", "want=", "age=
 # The names of the operands; the last one is for all that follow.
 OPERANDS = {"ktfind": ("FILE", "KVNO", "ETYPE", "NAME"), "ktcopy": ("FROM", "TO"), "ktdiff": ("A", "B"), "ktutil": ()}
 
-# What each definition is given before the files, which have an input after them, and klist's by its other options. Those
-# of other names are given whether messages are explained.
+# What a definition is given before the files, which have an input after them, if that is not only whether messages are
+# explained; klist's is another by its other options.
 GIVEN = {"ktcheck": ("explains", "mode", "clock"), "klist_silent": ("clock",),
          **dict.fromkeys(("show", "ktremove", "ccremove", "ktutil", "klist_overview"), ("explains", "clock"))}
 READING = ("ktedit", "ccedit", "ktutil", "hold")

@@ -2,13 +2,15 @@
 layout. And texts in JSON: Python reads each as it is, and one that is no UTF-8 by its hexadecimal digits."""
 
 import json
+import re
 from dataclasses import replace
 
-from makers.images import END, HOST, LITTLE, B, Entry, cache, config, hole, keytab, old, record
+from makers.images import END, HOST, LITTLE, TWO, USUAL, B, Entry, cache, config, hole, keytab, old, record
 from runs.harness import Case, Outcome, Report, message, over
 from runs.undisturbed import undisturbed
+from words.phrases import FORMATS
 
-BREAKS = ("crates/krb_readers", "crates/krb_text", "crates/krb_keytab_text", "crates/krb_json")
+BREAKS = ("crates/krb_readers", "crates/krb_text", "crates/krb_keytab_text", "crates/krb_json", "docs/FORMATS.md")
 
 # The enctypes that have names: the lengths of their keys, and the names; the first is printed.
 ETYPES = {
@@ -68,8 +70,24 @@ def sample(letters: str) -> bytes:
 
 LONG = Entry((b"",) * 40_000 + (b"x" * 65_535,), b"r" * 40_000, key=bytes(40_000))
 
+# The objects in FORMATS; and a damaged keytab with a name that is no UTF-8 and a type without a name, and its object.
+OBJECTS = [f"{line}\n".encode() for line in re.findall(r'^{"file".*', FORMATS, re.MULTILINE)]
+ODD = keytab(Entry((b"\xff",), timestamp=0, version8=1, enctype=65_535, key=b"\n\xff", version32=None), b"\0")
+ODD_OBJECT = b"""{"file":"k","kind":"keytab","version":2,"entries":[{"place":2,"principal_hex":"ff4052","kvno":1,\
+"etype":65535,"etype_name":null,"timestamp":0,"key_hex":"0aff"}],"fault":{"kind":1,"place":29}}
+"""
+
+THEOREMS = [
+    *(over("JSON", line, image, Outcome(0, wanted)) for line, image, wanted in zip(
+        ("klist -k --json k", "klist --json c", "klist -l --json c"), (TWO, USUAL, USUAL), OBJECTS[:3], strict=True)),
+    Case("JSON", ("ktcheck", "--json", "--want", "c@R", "k", "no"),
+         Outcome(1, b"".join(OBJECTS[3:]), b"krbfile: no: no such file\n"), {"k": TWO}, mode=0o100_644),
+    over("odd JSON", "klist -kK --json k", ODD, Outcome(1, ODD_OBJECT)),
+]
+
 # The lines of words list TWO, with each set of columns; those that are explained name what is no keytab.
 CASES = [
+    *THEOREMS,
     case("lengths and a count that would be negative as signed numbers", keytab(LONG),
          b"   3 " + b"/" * 40_000 + b"x" * 65_535 + b"@" + b"r" * 40_000),
     case("no entries", keytab()), case("the smallest entry", keytab(record(bytes(17))), b"   0 @"),

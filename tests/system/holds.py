@@ -73,16 +73,17 @@ IN_THE_WAY = {"setting": in_the_way}
 LEFT = {"k": TWO, "k.krbfile": b"left"}  # a keytab beside what a killed run left
 
 THEOREMS = [
-    given(K, None, b""), given(C, USUAL, b""), given(K, TWO, b"0000000002\n\5\2", after=NONE), given(K, TWO, frame(TWO)),
-    given(C, VERSION_3, frame(USUAL), after=USUAL), refused(PLACED, ("k: no such file", "")),
-    given(K, TWO, frame(TWO[:-1]), damaged(2, 53)), *(
-        given(K, TWO, data, NOT_A_FRAME) for data in (b"98\n" + TWO[:-1], b"97\n" + TWO)),
+    given(K, None, b""), given(C, USUAL, b""), given(K, TWO, b"0000000002\n\5\2", after=NONE),
+    given(K, TWO, frame(TWO)), given(C, VERSION_3, frame(USUAL), after=USUAL), refused(PLACED, ("k: no such file", "")),
+    *(given(K, TWO, data, NOT_A_FRAME) for data in (b"98\n" + TWO[:-1], b"97\n" + TWO)),
+    given(K, TWO, frame(TWO[:-1]), damaged(2, 53)),
 ]
 
 CASES = [
     *THEOREMS, *(given(line, TWO, b"") for line in (K, PLACED)),
     *(given(line, TWO, EMPTY, after=NONE) for line in (K, PLACED, "hold -k FILE:k", "hold -k WRFILE:k")),
-    given(K, None, EMPTY), given(K, None, frame(TWO), after=TWO), given(K, TWO, frame(old(HOST, B)), after=old(HOST, B)),
+    given(K, None, EMPTY), given(K, None, frame(TWO), after=TWO),
+    given(K, TWO, frame(old(HOST, B)), after=old(HOST, B)),
     given("hold -k --v1-big k", old(HOST, order=BIG), frame(old(order=BIG)), after=old(order=BIG)),
     # A cache of version 3 is as any, and nothing is said of entries that MIT's programs do not see.
     given(C, USUAL, frame(VERSION_3), after=VERSION_3),

@@ -1,9 +1,10 @@
 """Theorems of the files in `corpus`.
 
 Of listings: the definitions list each file as MIT's klist does. Of addresses, authorization data and encryption: each
-ticket has those that MIT's `klist -e -a -n -d` shows. It shows the types of the data, signed, the addresses, of IPv4 and
-IPv6 in their own forms and of the others only the types, and of a ticket's own bytes the encryption type. Of changes: the definitions leave the bytes that other programs left.
-Of look-ups: in keytabs they find what MIT's library finds.
+ticket has those that MIT's `klist -e -a -n -d` shows. It shows the types of the data, signed, the addresses, of IPv4
+and IPv6 in their own forms and of the others only the types, and the encryption type of a ticket's own bytes. Of
+changes: the definitions leave the bytes that other programs left. Of look-ups: in keytabs they find what MIT's library
+finds.
 """
 
 import re

@@ -1,5 +1,5 @@
--- What the samples are over: bytes as hexadecimal digits, the worked keytab and cache of docs/FORMATS.md, and the keytab
--- or the cache in an image.
+-- What the samples are over: bytes as hexadecimal digits, a record and the worked cache of docs/FORMATS.md, and the
+-- keytab or the cache in an image.
 use Rattle.samples.proofs.Cited.{ℕ, ◌+◌, ◌-◌, ◌*◌, List, [], ◌∷◌, ◌++◌, codes, filter, nat_lt, if◌then◌else◌, Result, None, true, Little, V2, name_of, KeytabState, open_result, image_of, empty, CredParts, most_bytes, event_in, script_by, Old, result_map, list_text, result_unwrap_or, Parts, SessionState, ReplyContent, empty_cache}
 use Rattle.krb_walk.specs.declared.event.Event.{Event}
 use Rattle.krb_walk.specs.declared.refusal.Code.{Code}
@@ -96,19 +96,11 @@ cache_left image done = cache_image (state_after cache_rules (session (cache ima
 abbrev pub cache_replies : List ℕ → List (Event CredParts) → List ReplyContent
 cache_replies image done = replies (history cache_rules (session (cache image)) done)
 
--- ---- the worked keytab and cache
+-- ---- a record of a keytab, and the worked cache
 
 -- a record of host/a@R with its length: version 3, encryption type 17, at 1700000000 seconds
 abbrev pub host : List ℕ
 host = hex (codes "0000002f00020001520004686f7374000161000000016553f1000300110010000102030405060708090a0b0c0d0e0f00000003")
-
--- a record of b@R with its length, another key, and all else the same
-abbrev pub b : List ℕ
-b = hex (codes "000000290001000152000162000000016553f1000300110010101112131415161718191a1b1c1d1e1f00000003")
-
--- the worked keytab, 98 bytes: the records at 2 and 53
-abbrev pub two : List ℕ
-two = hex (codes "0502") ++ (host ++ b)
 
 -- the front of the worked cache, 40 bytes: a header with an unknown tag and a time offset, and the default principal u@R
 abbrev pub front : List ℕ
