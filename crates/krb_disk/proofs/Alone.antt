@@ -24,15 +24,7 @@ past_both : (i : ℕ) → 1 ≤ i → slice_get {X = ℕ} (1 ∷ []) i ≡ slice
 past_both i past = slice_get_past {X = ℕ} (1 ∷ []) i past ∙ sym (slice_get_past {X = ℕ} (0 ∷ []) i past)
 
 patch : IsPatch (0 ∷ []) (1 ∷ []) 0 1
-patch = record {
-  order = omega arith;
-  in_old = omega arith;
-  in_new = omega arith;
-  front = λ i before. absurd (omega (arith, before));
-  back = λ i past in_old in_new. absurd (omega (arith, past, in_old));
-  begins = λ is same. cc;
-  ends = λ is same. cc;
-}
+patch = record { order = omega arith; in_old = omega arith; in_new = omega arith; front = λ i before. absurd (omega (arith, before)); back = λ i past in_old in_new. absurd (omega (arith, past, in_old)); begins = λ is same. cc; ends = λ is same. cc }
 
 abbrev content : ℕ → Content
 content b i = slice_get (b ∷ []) i
@@ -88,17 +80,8 @@ at stage names saved fresh = record { stage = stage; names = names; theirs = λ 
 abbrev beside : Stage → Option disk.File → disk.Moment
 beside stage file = at stage (only (codes "f.krbfile") file) false false
 
-abbrev file : Bool → Option disk.File
-file durable = Some (record { bytes = []; mode = private_mode; durable = durable })
-
 asks : (call : disk.Call) (s t : Stage) (old new : Option disk.File) → disk.Turns made call s old t new → disk.Asks made call (beside s old) (beside t new)
-asks call s t old new turns = record {
-  turns = turns;
-  others = λ name other. elsewhere (codes "f.krbfile") name new other ∙ sym (elsewhere (codes "f.krbfile") name old other);
-  theirs = refl;
-  saved = refl;
-  fresh = refl;
-}
+asks call s t old new turns = record { turns = turns; others = λ name other. elsewhere (codes "f.krbfile") name new other ∙ sym (elsewhere (codes "f.krbfile") name old other); theirs = refl; saved = refl; fresh = refl }
 
 -- a call after others
 next : (call : disk.Call) (calls : List disk.Call) (m n : disk.Moment) → disk.Happens made calls m → disk.Does made call m n → disk.Happens made (call ∷ calls) n
@@ -106,8 +89,8 @@ next call calls m n happens does = (m, (happens, does))
 
 pub saves : disk.Saves
 saves =
-    let new = file false in
-    let synced = file true in
+    let new = Some (record { bytes = []; mode = private_mode; durable = false }) in
+    let synced = Some (record { bytes = []; mode = private_mode; durable = true }) in
     let calls = disk.Lock ∷ (disk.Make ∷ []) in
     let written = disk.Permit private_mode ∷ (disk.Write ∷ (disk.Double ∷ (disk.AtPath ∷ calls))) in
     let watched = disk.Watch true ∷ (disk.Sync ∷ written) in
