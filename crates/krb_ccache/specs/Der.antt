@@ -1,5 +1,5 @@
--- DER (X.690), as far as a ticket needs it: elements with a tag of one byte, and INTEGERs.
-use Rattle.std.specs.Prelude.{ℕ, ◌+◌, ◌*◌, ◌-◌, ◌==◌, ℤ, pos, negsuc, List, [], ◌∷◌, length, Bool, true, false, not, ◌&&◌, ◌||◌, nat_lt, nat_le, if◌then◌else◌, Option, None, Some, slice_index}
+-- DER (X.690), as far as a ticket needs it: elements with a tag of one byte, GeneralStrings and INTEGERs.
+use Rattle.std.specs.Prelude.{ℕ, zero, suc, ◌+◌, ◌*◌, ◌-◌, ◌==◌, ℤ, pos, negsuc, List, [], ◌∷◌, length, Bool, true, false, not, ◌&&◌, ◌||◌, nat_lt, nat_le, if◌then◌else◌, Option, None, Some, unwrap_or, slice_index}
 use Rattle.std.specs.List.{fold}
 use Rattle.krb_wire.specs.Reading.{◌>>=◌, byte_at, bytes_at}
 
@@ -45,6 +45,21 @@ whole (Some (x, b ∷ rest)) = None
 unfoldable pub element_in : ℕ → List ℕ → Option (List ℕ)
 element_in tag bytes = whole (element_at tag bytes)
 
+-- ---- GeneralStrings
+
+-- the strings that the bytes are, one after the other, if they are at most n
+abbrev pub strings_within : ℕ → List ℕ → Option (List (List ℕ))
+strings_within zero bytes = if length bytes == 0 then Some [] else None
+strings_within (suc n) bytes =
+    if length bytes == 0 then Some [] else (do
+      first ← element_at 0x1b bytes
+      others ← strings_within n first.1
+      Some (first.0 ∷ others))
+
+-- the strings that the bytes are: each takes a byte, so there are no more strings than bytes
+unfoldable pub strings_in : List ℕ → Option (List (List ℕ))
+strings_in bytes = strings_within (length bytes) bytes
+
 -- ---- INTEGERs
 
 -- the first nine bits are not all the same, if there are nine (8.3.2)
@@ -73,3 +88,9 @@ integer_at tag bytes = do
 abbrev pub signed : Bool × ℕ → ℤ
 signed (true, n) = negsuc n
 signed (false, n) = pos n
+
+-- ---- for private contracts
+
+-- those strings, if the bytes are strings
+abbrev pub strings_left : ℕ → List ℕ → List (List ℕ)
+strings_left n bytes = unwrap_or (strings_within n bytes) []

@@ -1,13 +1,16 @@
--- The encryption of a ticket (RFC 4120 5.2.9 and 5.3).
+-- What a ticket has in its own bytes (RFC 4120 5.3): its encryption (5.2.9) and its server (5.2.2).
 use Rattle.std.specs.Prelude.{ℕ, suc, Bool, false, ◌^◌, ◌-◌, ◌==◌, ℤ, pos, negsuc, List, nat_lt, if◌then◌else◌, Option, None, Some, slice_index}
+use Rattle.std.specs.Int.{w32, cast_unsigned}
 use Rattle.krb_wire.specs.Reading.{◌>>=◌}
+use Rattle.krb_wire.specs.Spelling.{Parts}
 use Rattle.krb_ccache.specs.declared.ticket.TicketEncryption.{TicketEncryption}
-use Rattle.krb_ccache.specs.Der.{element_at, element_in, integer_at}
+use Rattle.krb_ccache.specs.declared.ticket.TicketServer.{TicketServer}
+use Rattle.krb_ccache.specs.Der.{element_at, element_in, integer_at, strings_in}
 
--- an enctype: an Int32
-abbrev pub etype_of : ℤ → Option ℤ
-etype_of (pos n) = if nat_lt n (2 ^ 31) then Some (pos n) else None
-etype_of (negsuc n) = if nat_lt n (2 ^ 31) then Some (negsuc n) else None
+-- an Int32, as an enctype and a name type are
+abbrev pub int32_of : ℤ → Option ℤ
+int32_of (pos n) = if nat_lt n (2 ^ 31) then Some (pos n) else None
+int32_of (negsuc n) = if nat_lt n (2 ^ 31) then Some (negsuc n) else None
 
 -- a kvno: a UInt32; read-only domain controllers of Windows write one from 2 ^ 31 on as that number less 2 ^ 32
 abbrev pub kvno_of : ℤ → Option ℕ
@@ -27,7 +30,7 @@ kvno_at bytes =
 unfoldable pub encrypted_data : List ℕ → Option TicketEncryption
 encrypted_data fields = do
   n ← integer_at 0xa0 fields
-  etype ← etype_of n.0
+  etype ← int32_of n.0
   kvno ← kvno_at n.1
   cipher ← element_in 0xa2 kvno.1
   Some (record { etype = etype; kvno = kvno.0 })
@@ -37,19 +40,50 @@ abbrev pub is_five : ℤ → Bool
 is_five (pos n) = n == 5
 is_five (negsuc n) = false
 
--- the fields of Ticket: tkt-vno [0], realm [1], sname [2], and enc-part [3]
-unfoldable pub ticket_fields : List ℕ → Option TicketEncryption
+-- the fields of Ticket: tkt-vno [0], realm [1], sname [2], and enc-part [3]; of realm and sname the content
+unfoldable pub ticket_fields : List ℕ → Option (List ℕ × List ℕ × TicketEncryption)
 ticket_fields fields = do
   version ← integer_at 0xa0 fields
   realm ← if is_five version.0 then element_at 0xa1 version.1 else None
   sname ← element_at 0xa2 realm.1
   enc_part ← element_in 0xa3 sname.1
   encrypted ← element_in 0x30 enc_part
-  encrypted_data encrypted
+  encryption ← encrypted_data encrypted
+  Some (realm.0, sname.0, encryption)
 
--- the encryption of a ticket, [APPLICATION 1]
-unfoldable pub ticket_encryption : List ℕ → Option TicketEncryption
-ticket_encryption bytes = do
+-- those of a ticket, [APPLICATION 1]
+unfoldable pub ticket_in : List ℕ → Option (List ℕ × List ℕ × TicketEncryption)
+ticket_in bytes = do
   ticket ← element_in 0x61 bytes
   fields ← element_in 0x30 ticket
   ticket_fields fields
+
+-- the encryption of a ticket, whatever realm and sname are
+unfoldable pub ticket_encryption : List ℕ → Option TicketEncryption
+ticket_encryption bytes = do
+  ticket ← ticket_in bytes
+  Some ticket.2
+
+-- the server with that realm and sname: one string, and the fields name-type [0], which a cache keeps in 32 bits, and name-string [1]
+unfoldable pub server_in : List ℕ → List ℕ → Option Parts
+server_in realm sname = do
+  realm ← element_in 0x1b realm
+  fields ← element_in 0x30 sname
+  n ← integer_at 0xa0 fields
+  name_type ← int32_of n.0
+  name_string ← element_in 0xa1 n.1
+  strings ← element_in 0x30 name_string
+  components ← strings_in strings
+  Some (record { name_type = cast_unsigned w32 name_type; realm = realm; components = components })
+
+-- the server that a ticket names itself
+unfoldable pub ticket_server : List ℕ → Option Parts
+ticket_server bytes = do
+  ticket ← ticket_in bytes
+  server_in ticket.0 ticket.1
+
+-- ---- for private contracts
+
+-- the parts of a name that is borrowed from a ticket
+abbrev pub server_parts : TicketServer → Parts
+server_parts s = record { name_type = cast_unsigned w32 s.name_type; realm = s.realm.now; components = s.components }

@@ -1,10 +1,12 @@
-//! DER (X.690), as far as a ticket needs it: elements with a tag of one byte, and INTEGERs.
+//! DER (X.690), as far as a ticket needs it: elements with a tag of one byte, INTEGERs, and GeneralStrings.
 
-ghost use Rattle.std.specs.Prelude.{◌≡◌, ◌≤◌, length};
+ghost use Rattle.std.specs.Prelude.{◌≡◌, ◌≤◌, ℕ, List, length, IsSome, is_some};
+ghost use Rattle.std.specs.Iterator.{YieldsFirstRef, item_count};
 ghost use Rattle.krb_wire.specs.Reading.{Gives, bytes_at};
-ghost use Rattle.krb_ccache.specs.Der.{base_256, long_length, length_at, element_at, element_in, is_shortest, integer_in, integer_at, signed};
+ghost use Rattle.krb_ccache.specs.Der.{base_256, long_length, length_at, element_at, element_in, is_shortest, integer_in, integer_at, signed, strings_within, strings_in, strings_left};
 
 use krb_wire::split_u8;
+use std::marker::Model;
 
 /// An INTEGER: whether it is below 0, and how far it is above 0 or below -1.
 pub type Integer = (bool, u64);
@@ -112,4 +114,71 @@ pub fn split_integer(tag: u8, bytes: &[u8]) -> Option<(Integer, &[u8])>
     let (element, rest) = split_element(tag, bytes)?;
     let content = read_element(2, element)?;
     Some((read_integer(content)?, rest))
+}
+
+/// An iterator over the GeneralStrings that some bytes are.
+#[derive(Drop)]
+pub struct Strings<'a> {
+    // No more strings than these are left.
+    most: usize,
+    bytes: &'a [u8],
+}
+
+impl<'a> Model for Strings<'a> {
+    ghost Value = { List (List ℕ) };
+
+    ghost view = { λ s. strings_left s.most s.bytes.now };
+
+    ghost invariant = { λ s. IsSome (strings_within s.most s.bytes.now) };
+}
+
+// Returns whether the bytes are strings, one after the other.
+fn are_strings(bytes: &[u8]) -> bool
+    ensures { result ≡ is_some (strings_in bytes.now) }
+{
+    let mut rest = bytes;
+    'strings: for _ in 0..bytes.len() {
+        if rest.is_empty() {
+            return true;
+        }
+        let Some((_, after)) = split_element(0x1b, rest) else {
+            return false;
+        };
+        rest = after;
+    }
+    rest.is_empty()
+}
+
+/// Returns the strings that the bytes are.
+#[tactic(auto, unfolding(crate::specs::Der::strings_in))]
+pub fn read_strings(bytes: &[u8]) -> Option<Strings<'_>>
+    ensures { Gives (λ s. s) result (strings_in bytes.now) }
+{
+    if !are_strings(bytes) {
+        return None;
+    }
+    Some(Strings {
+        most: bytes.len(),
+        bytes,
+    })
+}
+
+impl<'a> Iterator for Strings<'a> {
+    type Item = &'a [u8];
+
+    ghost next_gives = { YieldsFirstRef (λ s. s) };
+
+    ghost remaining = { item_count (λ s. s) };
+
+    fn next(&mut self) -> Option<&'a [u8]> {
+        if self.bytes.is_empty() {
+            return None;
+        }
+        let Some((first, others)) = split_element(0x1b, self.bytes) else {
+            unreachable!()
+        };
+        self.most -= 1;
+        self.bytes = others;
+        Some(first)
+    }
 }

@@ -26,11 +26,12 @@ pub use credential::Cred;
 pub use credential::times::Times;
 pub use credential::view::{CredView, read_credential};
 pub use credentials::Credentials;
+pub use der::Strings;
 pub use laws::{
     caches_are_opened_again, credentials_are_read_back, one_reading, removals_are_events,
     rewrites_keep_credentials, settings_are_events,
 };
 pub use offset::Offset;
 pub use open::{CcOpenFault, CcOpenRefused};
-pub use ticket::{TicketEncryption, ticket_encryption};
+pub use ticket::{TicketEncryption, TicketServer, ticket_encryption, ticket_server};
 pub use version::Version;

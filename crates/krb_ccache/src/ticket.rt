@@ -1,11 +1,14 @@
-//! The encryption of a ticket. Its tags are 0x61, [APPLICATION 1], 0x30, SEQUENCE, and for a field [0] 0xa0 and so on.
+//! What a ticket has in its own bytes: its encryption and its server. Its tags are 0x61, [APPLICATION 1], 0x30, SEQUENCE,
+//! 0x1b, GeneralString, and for a field [0] 0xa0 and so on.
 
-ghost use Rattle.std.specs.Prelude.{◌≡◌};
-ghost use Rattle.krb_wire.specs.Reading.{Gives};
+ghost use Rattle.std.specs.Prelude.{◌≡◌, IfOk};
+ghost use Rattle.krb_wire.specs.Reading.{Gives, items_of, principal_parts};
 ghost use Rattle.krb_ccache.specs.Der.{signed};
-ghost use Rattle.krb_ccache.specs.Ticket.{etype_of, kvno_of, kvno_at, encrypted_data, ticket_fields, ticket_encryption};
+ghost use Rattle.krb_ccache.specs.Ticket.{int32_of, kvno_of, kvno_at, encrypted_data, ticket_fields, ticket_in, ticket_encryption, server_in, ticket_server, server_parts};
 
-use crate::der::{Integer, read_element, split_element, split_integer};
+use crate::der::{Integer, Strings, read_element, read_strings, split_element, split_integer};
+use krb_wire::{NoMemory, Principal};
+use std::alloc::Allocator;
 
 /// How a ticket is encrypted, by its own bytes.
 #[derive(Clone, Copy, Debug, PartialEq, Eq)]
@@ -15,8 +18,33 @@ pub struct TicketEncryption {
     pub kvno: Option<u32>,
 }
 
-fn etype_of(number: Integer) -> Option<i32>
-    ensures { result ≡ etype_of (signed number) }
+/// The server that a ticket names itself, which may differ from that of its credential.
+#[derive(Drop)]
+pub struct TicketServer<'a> {
+    pub name_type: i32,
+    pub realm: &'a [u8],
+    pub components: Strings<'a>,
+}
+
+impl TicketServer<'_> {
+    /// Returns an owned copy.
+    pub fn copy<A: Allocator + Copy>(self, alloc: A) -> Result<Principal<A>, NoMemory>
+        ensures { IfOk result (λ p. principal_parts p ≡ server_parts self.entry) }
+    {
+        let mut components = Vec::new(alloc);
+        'strings: for string in self.components {
+            components.push(Vec::from_slice(alloc, string)?)?;
+        }
+        Ok(Principal {
+            name_type: self.name_type.cast_unsigned(),
+            realm: Vec::from_slice(alloc, self.realm)?,
+            components,
+        })
+    }
+}
+
+fn int32_of(number: Integer) -> Option<i32>
+    ensures { result ≡ int32_of (signed number) }
 {
     let (is_negative, n) = number;
     if n >= 1 << 31 {
@@ -55,24 +83,36 @@ fn encrypted_data(fields: &[u8]) -> Option<TicketEncryption>
     ensures { result ≡ encrypted_data fields.now }
 {
     let (n, rest) = split_integer(0xa0, fields)?;
-    let etype = etype_of(n)?;
+    let etype = int32_of(n)?;
     let (kvno, rest) = split_kvno(rest)?;
     read_element(0xa2, rest)?;
     Some(TicketEncryption { etype, kvno })
 }
 
+// The contents of realm and sname, and the encryption.
+type Fields<'a> = (&'a [u8], &'a [u8], TicketEncryption);
+
 #[tactic(auto, unfolding(crate::specs::Ticket::ticket_fields))]
-fn ticket_fields(fields: &[u8]) -> Option<TicketEncryption>
-    ensures { result ≡ ticket_fields fields.now }
+fn ticket_fields(fields: &[u8]) -> Option<Fields<'_>>
+    ensures { Gives (λ x. (x.0.now, x.1.now, x.2)) result (ticket_fields fields.now) }
 {
     let (version, rest) = split_integer(0xa0, fields)?;
     if version != (false, 5) {
         return None;
     }
-    let (_, rest) = split_element(0xa1, rest)?;
-    let (_, rest) = split_element(0xa2, rest)?;
+    let (realm, rest) = split_element(0xa1, rest)?;
+    let (sname, rest) = split_element(0xa2, rest)?;
     let enc_part = read_element(0xa3, rest)?;
-    encrypted_data(read_element(0x30, enc_part)?)
+    let encryption = encrypted_data(read_element(0x30, enc_part)?)?;
+    Some((realm, sname, encryption))
+}
+
+#[tactic(auto, unfolding(crate::specs::Ticket::ticket_in))]
+fn read_ticket(ticket: &[u8]) -> Option<Fields<'_>>
+    ensures { Gives (λ x. (x.0.now, x.1.now, x.2)) result (ticket_in ticket.now) }
+{
+    let fields = read_element(0x30, read_element(0x61, ticket)?)?;
+    ticket_fields(fields)
 }
 
 /// Returns how a ticket is encrypted (RFC 4120 5.3), or `None` if the bytes are not one in DER.
@@ -80,6 +120,31 @@ fn ticket_fields(fields: &[u8]) -> Option<TicketEncryption>
 pub fn ticket_encryption(ticket: &[u8]) -> Option<TicketEncryption>
     ensures { result ≡ ticket_encryption ticket.now }
 {
-    let fields = read_element(0x30, read_element(0x61, ticket)?)?;
-    ticket_fields(fields)
+    let (_, _, encryption) = read_ticket(ticket)?;
+    Some(encryption)
+}
+
+#[tactic(auto, unfolding(crate::specs::Ticket::server_in))]
+fn server_in<'a>(realm: &'a [u8], sname: &'a [u8]) -> Option<TicketServer<'a>>
+    ensures { Gives server_parts result (server_in realm.now sname.now) }
+{
+    let realm = read_element(0x1b, realm)?;
+    let (n, rest) = split_integer(0xa0, read_element(0x30, sname)?)?;
+    let name_type = int32_of(n)?;
+    let components = read_strings(read_element(0x30, read_element(0xa1, rest)?)?)?;
+    Some(TicketServer {
+        name_type,
+        realm,
+        components,
+    })
+}
+
+/// Returns the server that a ticket names itself (RFC 4120 5.3), or `None` if the bytes are not a ticket in DER, or its
+/// realm or server's name is not.
+#[tactic(auto, unfolding(crate::specs::Ticket::ticket_server))]
+pub fn ticket_server(ticket: &[u8]) -> Option<TicketServer<'_>>
+    ensures { Gives server_parts result (ticket_server ticket.now) }
+{
+    let (realm, sname, _) = read_ticket(ticket)?;
+    server_in(realm, sname)
 }
