@@ -7,6 +7,7 @@ use Rattle.krb_wire.specs.Names.{name_text}
 use Rattle.krb_wire.specs.Spelling.{Parts}
 use Rattle.krb_ccache.specs.Credential.{CredParts}
 use Rattle.krb_ccache.specs.Config.{is_config}
+use Rattle.krb_ccache.specs.Ticket.{ticket_server}
 use Rattle.krb_ccache.specs.Store.{CacheState, PlacedCredential, placed_credentials}
 use Rattle.krb_audit.specs.declared.tickets.SelectedTickets.{SelectedTickets}
 use Rattle.krb_audit.specs.Selection.{has_text}
@@ -19,14 +20,14 @@ is_service p = not (option_map_or (λ first. bytes_eq first (codes "krbtgt")) (s
 abbrev pub is_of_gssproxy : Parts → Bool
 is_of_gssproxy p = bytes_eq p.realm (codes "X-GSSPROXY:")
 
--- a server prints as a selected name; if none are given, it is any that is not of gssproxy
-abbrev pub is_selected_server : List (List ℕ) → Parts → Bool
-is_selected_server [] p = not (is_of_gssproxy p)
-is_selected_server servers p = has_text servers p
+-- a ticket's server, or the one that it names itself, prints as a selected name; if none are given, its server is not of gssproxy
+abbrev pub has_selected_server : List (List ℕ) → CredParts → Bool
+has_selected_server [] c = not (is_of_gssproxy c.server)
+has_selected_server servers c = has_text servers c.server || option_map_or (has_text servers) (ticket_server c.ticket) false
 
 -- a credential is a ticket, of a service if only those are selected, for a selected server
 abbrev pub names_ticket : List (List ℕ) → Bool → CredParts → Bool
-names_ticket servers services c = not (is_config c) && ((not services || is_service c.server) && is_selected_server servers c.server)
+names_ticket servers services c = not (is_config c) && ((not services || is_service c.server) && has_selected_server servers c)
 
 -- a credential has an end time, which is at or before a second, if one is given; without one it does not end
 abbrev pub has_ended_by : Option ℕ → CredParts → Bool

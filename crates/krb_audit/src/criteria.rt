@@ -3,12 +3,12 @@
 ghost use Rattle.std.specs.Prelude.{◌≡◌, ◌&&◌, not, IfOk, map};
 ghost use Rattle.krb_audit.specs.Selection.{AsksFor, has_selected_enctype, is_named};
 ghost use Rattle.std.specs.Vec.{vec_items};
-ghost use Rattle.krb_audit.specs.Tickets.{has_ended_by, is_of_gssproxy, is_selected_server, is_service, names_ticket};
+ghost use Rattle.krb_audit.specs.Tickets.{has_ended_by, has_selected_server, is_of_gssproxy, is_service, names_ticket};
 
 use crate::name_filter::NameFilter;
 use crate::selection::Selection;
 use crate::tickets::TicketCriteria;
-use krb_ccache::{CredView, is_config};
+use krb_ccache::{CredView, is_config, ticket_server};
 use krb_keytab::EntryView;
 use krb_wire::{Name, NoMemory, PrincipalView};
 use std::alloc::Allocator;
@@ -58,26 +58,34 @@ fn is_of_gssproxy(server: &PrincipalView<'_>) -> bool
     server.realm() == b"X-GSSPROXY:".as_slice()
 }
 
-// Returns whether a server prints as one of those, or is any but gssproxy's if there are none. Asks the filter of their
-// names.
-fn is_selected_server<A: Allocator, B: Allocator>(
+// Returns whether a ticket's server, or the one that it names itself, prints as one of those, or its server is any but
+// gssproxy's if there are none. Asks the filter of their names.
+fn has_selected_server<A: Allocator + Copy, B: Allocator>(
+    alloc: A,
     servers: &[Vec<u8, B>],
-    server: &PrincipalView<'_>,
+    ticket: &CredView<'_>,
     names: &mut NameFilter<'_, A>,
 ) -> Result<bool, NoMemory>
     ensures selected { AsksFor (map vec_items servers.now) names.old.names
-        → IfOk result (λ b. b ≡ is_selected_server (map vec_items servers.now) server.now) }
+        → IfOk result (λ b. b ≡ has_selected_server (map vec_items servers.now) ticket.now) }
     ensures kept { names.new.names ≡ names.old.names }
 {
     if servers.is_empty() {
-        return Ok(!is_of_gssproxy(server));
+        return Ok(!is_of_gssproxy(ticket.server()));
     }
-    names.passes(server)
+    if names.passes(ticket.server())? {
+        return Ok(true);
+    }
+    match ticket_server(ticket.ticket()) {
+        Some(server) => names.passes(&server.copy(alloc)?),
+        None => Ok(false),
+    }
 }
 
 /// Returns whether a credential is a ticket that meets the criteria, whatever its end time. Asks the filter of their
 /// servers if that matters.
-pub fn names_ticket<A: Allocator, B: Allocator>(
+pub fn names_ticket<A: Allocator + Copy, B: Allocator>(
+    alloc: A,
     criteria: &TicketCriteria<'_, B>,
     credential: &CredView<'_>,
     servers: &mut NameFilter<'_, A>,
@@ -92,7 +100,7 @@ pub fn names_ticket<A: Allocator, B: Allocator>(
     if criteria.all_services && !is_service(credential.server()) {
         return Ok(false);
     }
-    is_selected_server(criteria.servers, credential.server(), servers)
+    has_selected_server(alloc, criteria.servers, credential, servers)
 }
 
 /// Returns whether a credential has ended at or before the given second, as one without an end never does. True if no

@@ -5,7 +5,7 @@ ghost use Rattle.std.specs.Vec.{vec_items};
 ghost use Rattle.krb_audit.specs.Selection.{AsksFor, has_text};
 
 use krb_names::NameSet;
-use krb_wire::{NoMemory, PrincipalView, write_name};
+use krb_wire::{Name, NoMemory, write_name};
 use std::alloc::Allocator;
 
 /// Passes the names that are asked for, or any if there are none.
@@ -33,8 +33,8 @@ impl<'t, A: Allocator + Copy> NameFilter<'t, A> {
 
 impl<'t, A: Allocator> NameFilter<'t, A> {
     /// Returns whether a name passes. Takes a look-up.
-    pub fn passes(&mut self, name: &PrincipalView<'_>) -> Result<bool, NoMemory>
-        ensures passes { IfOk result (λ b. b ≡ has_text self.old.names name.now) }
+    pub fn passes<N: Name>(&mut self, name: &N) -> Result<bool, NoMemory>
+        ensures passes { IfOk result (λ b. b ≡ has_text self.old.names (N.parts name.now)) }
         ensures kept { self.new.names ≡ self.old.names }
     {
         if self.names.len() == 0 {

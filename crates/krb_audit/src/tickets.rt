@@ -30,7 +30,7 @@ fn append_removed<A: Allocator>(
 /// Which tickets of a cache are selected: those that meet all criteria given.
 #[derive(Clone, Copy)]
 pub struct TicketCriteria<'s, B: Allocator> {
-    /// The servers as they are printed; an empty list selects any but those of gssproxy.
+    /// The servers as they are printed, also as tickets name them; an empty list selects any but those of gssproxy.
     pub servers: &'s [Vec<u8, B>],
     /// Only tickets of services: not those of the ticket-granting service.
     pub all_services: bool,
@@ -49,7 +49,7 @@ pub struct SelectedTickets<A: Allocator> {
     pub is_named: bool,
 }
 
-impl<A: Allocator> SelectedTickets<A> {
+impl<A: Allocator + Copy> SelectedTickets<A> {
     // Adds a ticket.
     fn add(&mut self, label: &[u8], place: u32, ticket: &CredView<'_>) -> Result<(), NoMemory>
         ensures places { OnOk result (self.new.places.items ≡ self.old.places.items ++ place ∷ []) }
@@ -65,6 +65,7 @@ impl<A: Allocator> SelectedTickets<A> {
     // Adds the next credential if it is a selected ticket.
     fn consider<B: Allocator>(
         &mut self,
+        alloc: A,
         label: &[u8],
         criteria: &TicketCriteria<'_, B>,
         servers: &mut NameFilter<'_, A>,
@@ -75,7 +76,7 @@ impl<A: Allocator> SelectedTickets<A> {
             → SelectsSoFar label.now (map vec_items criteria.now.servers.now) criteria.now.all_services criteria.now.ended_by ((place, credential.now) ∷ rest) all self.old
             → OnOk result (SelectsSoFar label.now (map vec_items criteria.now.servers.now) criteria.now.all_services criteria.now.ended_by rest all self.new × AsksFor (map vec_items criteria.now.servers.now) servers.new.names) }
     {
-        if !names_ticket(criteria, credential, servers)? {
+        if !names_ticket(alloc, criteria, credential, servers)? {
             return Ok(());
         }
         self.is_named = true;
@@ -102,7 +103,7 @@ pub fn select_tickets<A: Allocator + Copy, B: Allocator>(
         is_named: false,
     };
     'credentials: for (place, credential) in cache.credentials() {
-        selected.consider(label, criteria, &mut servers, place, &credential)?;
+        selected.consider(alloc, label, criteria, &mut servers, place, &credential)?;
     }
     Ok(selected)
 }
