@@ -3,9 +3,9 @@ use Rattle.std.specs.Prelude.{⊤}
 use Rattle.krb_audit.proofs.OnLiterals.{krb_audit_on_literals}
 use Rattle.krb_show.specs.Ago.{span}
 use Rattle.krb_show.specs.EtypeNames.{etype_cell}
-use Rattle.krb_show.specs.CacheView.{end_cell}
+use Rattle.krb_show.specs.CacheView.{end_cell, service}
 use Rattle.krb_show.specs.KeytabView.{distinct, keys_cell}
 
 unfoldable pub krb_show_on_literals : ⊤
-unfolding krb_audit_on_literals span etype_cell end_cell distinct keys_cell
+unfolding krb_audit_on_literals span etype_cell end_cell service distinct keys_cell
 krb_show_on_literals = tt

@@ -1,12 +1,12 @@
 -- A credential cache as it is shown to people: a heading, and a table of its tickets.
-use Rattle.std.specs.Prelude.{ℕ, ◌==◌, nat_le, nat_lt, List, [], ◌∷◌, ◌++◌, length, map, filter, not, codes, if◌then◌else◌}
+use Rattle.std.specs.Prelude.{ℕ, ◌==◌, nat_le, nat_lt, List, [], ◌∷◌, ◌++◌, length, map, filter, not, codes, unwrap_or, if◌then◌else◌}
 use Rattle.krb_wire.specs.Names.{name_text}
 use Rattle.krb_wire.specs.Spelling.{Parts}
 use Rattle.krb_walk.specs.Store.{fault_of}
 use Rattle.krb_ccache.specs.declared.credential.times.Times.{Times}
 use Rattle.krb_ccache.specs.Credential.{CredParts}
 use Rattle.krb_ccache.specs.Config.{is_config}
-use Rattle.krb_ccache.specs.Ticket.{ticket_encryption}
+use Rattle.krb_ccache.specs.Ticket.{ticket_encryption, ticket_server}
 use Rattle.krb_ccache.specs.Store.{CacheState, PlacedCredential, store_of, placed_credentials}
 use Rattle.krb_text.specs.FaultLine.{fault_line}
 use Rattle.krb_show.specs.Ago.{ago, time_cell}
@@ -31,11 +31,15 @@ end_cell now t =
     else (if nat_lt now (start t) then codes "starts " ++ ago now (start t)
     else ago now t.endtime))
 
+-- the service of a ticket: its server, but where the realm of that is empty the server that the ticket names itself, if it does
+unfoldable pub service : CredParts → Parts
+service c = if length c.server.realm == 0 then unwrap_or (ticket_server c.ticket) c.server else c.server
+
 -- the cells of a ticket: its end, its last renewal, the type of its session key, how it is encrypted by its own bytes, and its service
 abbrev pub ticket_row : ℕ → CredParts → List (List ℕ)
 ticket_row now c =
     end_cell now c.times ∷ time_cell now c.times.renew_till ∷ etype_cell c.key.enctype
-    ∷ encryption_cell (ticket_encryption c.ticket) ∷ name_text c.server ∷ []
+    ∷ encryption_cell (ticket_encryption c.ticket) ∷ name_text (service c) ∷ []
 
 -- the titles of the columns
 abbrev pub ticket_titles : List (List ℕ)

@@ -1,15 +1,16 @@
 //! The rows of tickets.
 
-ghost use Rattle.std.specs.Prelude.{◌≡◌};
+ghost use Rattle.std.specs.Prelude.{◌≡◌, ◌++◌, OnOk};
+ghost use Rattle.krb_wire.specs.Names.{name_text};
 ghost use Rattle.krb_wire.specs.Text.{AppendedPart};
-ghost use Rattle.krb_show.specs.CacheView.{end_cell, start};
+ghost use Rattle.krb_show.specs.CacheView.{end_cell, service, start};
 
 use crate::ago::{append_ago, append_time};
 use crate::columns::Row;
 use crate::etypes::{append_encryption, append_etype};
-use krb_ccache::{CredView, ticket_encryption};
+use krb_ccache::{CredView, ticket_encryption, ticket_server};
 use krb_text::append;
-use krb_wire::{NoMemory, write_name};
+use krb_wire::{Name, NoMemory, write_name};
 use std::alloc::Allocator;
 
 fn start(ticket: &CredView<'_>) -> u32
@@ -46,6 +47,24 @@ fn append_end<A: Allocator>(
     append_ago(now, end, out)
 }
 
+// Appends the service of a ticket: its server, or the one that it names itself where the realm of its server is empty.
+#[tactic(auto, unfolding(crate::specs::CacheView::service))]
+fn append_service<A: Allocator + Copy>(
+    alloc: A,
+    ticket: &CredView<'_>,
+    out: &mut Vec<u8, A>,
+) -> Result<(), NoMemory>
+    ensures { OnOk result (out.new.items ≡ out.old.items ++ name_text (service ticket.now)) }
+{
+    if !ticket.server().realm().is_empty() {
+        return write_name(ticket.server(), out);
+    }
+    match ticket_server(ticket.ticket()) {
+        Some(server) => write_name(&server.copy(alloc)?, out),
+        None => write_name(ticket.server(), out),
+    }
+}
+
 /// The row of a ticket at a second.
 #[derive(Drop)]
 pub struct TicketRow<'c, 'a> {
@@ -62,14 +81,14 @@ impl<A: Allocator + Copy> Row<A> for TicketRow<'_, '_> {
         5
     }
 
-    fn append_cell(&self, _alloc: A, column: usize, out: &mut Vec<u8, A>) -> Result<(), NoMemory> {
+    fn append_cell(&self, alloc: A, column: usize, out: &mut Vec<u8, A>) -> Result<(), NoMemory> {
         let ticket = self.ticket;
         match column {
             0 => append_end(self.clock, ticket, out),
             1 => append_time(self.clock, ticket.renew_till(), out),
             2 => append_etype(ticket.enctype(), out),
             3 => append_encryption(ticket_encryption(ticket.ticket()), out),
-            4 => write_name(ticket.server(), out),
+            4 => append_service(alloc, ticket, out),
             _ => Ok(()),
         }
     }
