@@ -6,7 +6,8 @@ Places are counted by hand: a ticket has 108 bytes or 106, pa_type's value 136.
 from dataclasses import replace
 
 from caches.cache_listings import of_host
-from makers.images import FIELDS, OFFSET, PA_TYPE, TICKET, Credential, Name, cache
+from makers.images import (FIELDS, OFFSET, PA_TYPE, TICKET, Credential, Name, cache, encrypted, own_server,
+                           ticket)
 from runs.harness import Case, Outcome, message, over
 
 BREAKS = ("crates/krb_editors/src/ccremove.rt", "crates/krb_editors/src/selecting.rt",
@@ -40,6 +41,11 @@ KEPT_TOO = replace(TICKET, server=Name((), b"X-GSSPROXY:"))  # another of its re
 BY_NAME = "-p Encrypted/Credentials/v1@X-GSSPROXY:"
 ENDLESS = replace(TICKET, endtime=0)
 
+# Tickets that name host/b@S themselves: of a server without a realm, of another server, and of gssproxy.
+NAMING = [replace(TICKET, server=server, ticket=ticket(encrypted(b"\x12"), own_server(Name((b"host", b"b"), b"S"))))
+          for server in (Name((b"host", b"b"), b""), Name((b"krbtgt", b"R")), KEPT.server)]
+NAMED = ["removed 22 host/b@", "removed 179 krbtgt/R@R", "removed 339 Encrypted/Credentials/v1@X-GSSPROXY:"]
+
 
 def remove(words: str, wanted: Outcome | list[str], *left: object) -> Case:
     """Returns a run of ccremove with these words before the file, and what is left then, if anything goes."""
@@ -65,5 +71,10 @@ CASES = [
          ["removed 22 Encrypted/Credentials/v1@X-GSSPROXY:"], cache(KEPT_TOO)),
     *(over(f"all but gssproxy's by {words}", f"ccremove {words} c", cache(KEPT, of_host(), KEPT_TOO, ENDLESS),
            ["removed 143 host/a@R"], cache(KEPT, KEPT_TOO, ENDLESS)) for words in ("--expired", "--all-services")),
+    # A ticket is asked for by its server's name, and by its own.
+    *(over(f"a ticket's own name: {words}", f"ccremove {words} c", cache(*NAMING), wanted, cache(*left))
+      for words, wanted, left in (
+          ("-p host/b@S", NAMED, []), ("-p host/b@", NAMED[:1], NAMING[1:]), ("-p krbtgt/R@R", NAMED[1:2], NAMING[::2]),
+          ("-p host/b@S --all-services", NAMED[::2], NAMING[1:2]), ("--all-services", NAMED[:1], NAMING[1:]))),
     over("no service has expired", "ccremove --all-services --expired c", cache(TICKET, LATER_HOST), []),
 ]

@@ -26,8 +26,8 @@ CHECKED = Choices(names=((b"a", b"R"), (b"a", b"b", b"R"), (b"", b"R"), (b"\xff 
 WANTED = ("a@R", r"\a@R", "a/b@R", "@R", r"a\/b@R", r"é\t@R", "c@R")
 
 # The names of servers, some of them printed alike.
-SERVERS = [*[Name((b"krbtgt", b"R"))] * 3, Name((b"host", b"a")), Name((b"host", b"a"), name_type=3),
-           Name((b"host/a",)), Name(()), Name((b"",)), Name((b"a\n@",), b"R@S"),
+SERVERS = [*[Name((b"krbtgt", b"R"))] * 3, *[Name((b"host", b"a"), b"")] * 3, Name((b"host", b"a")),
+           Name((b"host", b"a"), name_type=3), Name((b"host/a",)), Name(()), Name((b"",)), Name((b"a\n@",), b"R@S"),
            Name((CONFIG_FIRST, b"k"), CONFIG_REALM), Name((CONFIG_FIRST,), CONFIG_REALM),
            *[Name((b"Encrypted",), b"X-GSSPROXY:")] * 2]
 

@@ -239,6 +239,13 @@ TICKET_VERSION = bytes.fromhex("a003020105")
 TICKET_FIELDS = TICKET_VERSION + bytes.fromhex("a1031b0152 a2163014 a003020102 a10d300b 1b066b7262746774 1b0152")
 
 
+def own_server(name: Name, name_type: bytes = b"\1") -> bytes:
+    """Returns the first fields of a ticket for that server, whose name type is an INTEGER with this content."""
+    strings = b"".join(element(0x1B, component) for component in name.components)
+    sname = element(0xA0, element(2, name_type)) + element(0xA1, element(0x30, strings))
+    return TICKET_VERSION + element(0xA1, element(0x1B, name.realm)) + element(0xA2, element(0x30, sname))
+
+
 def ticket(data: bytes, fields: bytes = TICKET_FIELDS, at: int = -1,
            odd: Callable[[int, bytes], bytes] = element) -> bytes:
     """Returns a ticket of those fields. Of the four elements around those of its EncryptedData that number `at` from

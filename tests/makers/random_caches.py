@@ -6,7 +6,7 @@ from random import Random
 
 from keytabs.listings import NAMES
 from makers.images import (CONFIG_FIRST, CONFIG_REALM, FLAGS, Credential, Name, cache, config, encrypted, header_field,
-                           integer, number, offset, ticket)
+                           integer, number, offset, own_server, ticket)
 from makers.random_keytabs import damaged, mutated, random_bytes
 from peers import corpus
 
@@ -15,6 +15,8 @@ KEYS = [b"k", b"l", b"pa_type", b"\\x00", b"\x00", b"-"]  # few, so that many va
 PRINCIPALS = [b"-", b"-", b"krbtgt/R@R", b"a@R", b"\\a@R", b"\xff@"]  # few, likewise
 ETYPES = (17, 18, 19, 20, 23, 25, 26, 16, 0, -1, 65_535, 65_536, -2**31, 2**31 - 1)  # of tickets in DER
 KVNOS = (None, None, 0, 1, 2, 127, 128, 255, 2**31 - 1, 2**31, 2**32 - 1, -1, -2**31)  # of tickets in DER
+
+OWN_SERVERS = [Name((b"host", b"a"))] * 3 + [Name(()), Name((b"a\n@", b""), b"")]  # those that tickets name themselves
 
 
 def random_number(random: Random, bits: int) -> int:
@@ -50,8 +52,9 @@ def random_times(random: Random) -> dict[str, int]:
 def random_ticket(random: Random) -> bytes:
     """Returns a ticket in DER, sometimes damaged."""
     kvno = random.choice(KVNOS)
+    server, name_type = random.choice([*OWN_SERVERS, random_name(random)]), random.choice((*ETYPES, 2**31, -2**31 - 1))
     made = ticket(encrypted(integer(random.choice(ETYPES)), None if kvno is None else integer(kvno),
-                            bytes(random.choice([0, 20, 60, 110, 300]))))
+                            bytes(random.choice([0, 20, 60, 110, 300]))), own_server(server, integer(name_type)))
     return damaged(random, made, made) if random.random() < 0.5 else made
 
 

@@ -7,7 +7,7 @@ from caches import cache_listings
 from caches.cache_listings import TICKET_LINE
 from keytabs.file_names import LIMIT
 from keytabs.listings import B_LINE, HOST_LINE, listed
-from makers.images import B, HOST, TWO, USUAL, cache, keytab
+from makers.images import B, HOST, OFFSET, TWO, USUAL, cache, keytab
 from names.several_keytabs import MISSING, OTHER, UNREAD, fault
 from runs.harness import Line
 from words.explaining import FAILED, FULL, Explained, no_keytab, over_files
@@ -16,13 +16,15 @@ from words.phrases import BEGINS_AS_KEYTAB, CAUSES, COLLECTION, LARGE, LISTED_AS
 BREAKS = ("crates/krb_driver/src/several.rt", "crates/krb_readers/src/klist.rt")
 
 FILES = {"k": TWO, "j": keytab(B), "d": keytab(HOST, b"\0"), "n": keytab(), "c": USUAL, "e": cache(),
-         "a\nb": keytab(B), "FILE:k": keytab(HOST)}
+         "o": cache(fields=OFFSET),         "a\nb": keytab(B), "FILE:k": keytab(HOST)}
 
 K, D = listed(HOST_LINE, B_LINE), listed(HOST_LINE, b"fault 1 at 53", name=b"d")
 j = partial(listed, B_LINE)
 C, E = cache_listings.listed(b"u@R", TICKET_LINE), cache_listings.listed(b"u@R", name=b"e")
 N_JSON = b'{"file":"n","kind":"keytab","version":2,"entries":[],"fault":null}\n'
-E_JSON = b'{"file":"e","kind":"ccache","version":4,"default_principal":"u@R","tickets":[],"config":[],"fault":null}\n'
+E_JSON, O_JSON = (b'{"file":"%b","kind":"ccache","version":4,"default_principal":"u@R","offset":%b,"tickets":[],'
+                  b'"config":[],"fault":null}\n' % each
+                  for each in ((b"e", b"null"), (b"o", b'{"seconds":5,"microseconds":-10}')))
 
 
 def list_all(line: str | Line, out: list[bytes], *output: tuple[str, str], files: dict[str, bytes] = FILES,
@@ -46,7 +48,8 @@ CASES = [
              status=1),
     partial(list_all, "-k l k", [K], ("l: file too large", LARGE), status=1, files={"k": TWO, "l": bytes(LIMIT + 1)}),
     # JSON has a line for each.
-    list_all("-k --json n no n", [N_JSON + N_JSON], MISSING, status=1), list_all("--json e e", [E_JSON + E_JSON]),
+    list_all("-k --json n no n", [N_JSON + N_JSON], MISSING, status=1),
+    list_all("--json e o e", [E_JSON + O_JSON + E_JSON]),
     # An output that takes nothing ends the run with the first file that would print something.
     list_all("-k no k x", [], MISSING, FAILED, status=3, options=FULL),
     list_all("--json no e no", [], MISSING, FAILED, status=3, options=FULL),

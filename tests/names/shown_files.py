@@ -3,7 +3,7 @@
 from dataclasses import replace
 from functools import partial
 
-from makers.images import B, PA_TYPE, TICKET, Entry, Name, cache, encrypted, keytab, ticket
+from makers.images import B, PA_TYPE, TICKET, Entry, Name, cache, encrypted, keytab, own_server, ticket
 from names.several_keytabs import MISSING, UNREAD
 from runs.harness import Case, Line, Outcome, Report
 from runs.system_calls import preloaded
@@ -26,6 +26,7 @@ def table(*rows: str, widths: tuple[int, ...]) -> str:
 of_keys, of_tickets = (partial(table, heads) for heads in (
     "KVNO|ADDED|KEYS|PRINCIPAL", "ENDS|RENEW|SESSION|TICKET|SERVICE"))
 ends = partial(replace, TICKET, authtime=NOW - 9, endtime=0)
+OWN = ticket(encrypted(b"\x12"), own_server(Name((b"h", b"b"), b"S")))  # a ticket that names h/b@S itself
 
 
 def of_type(*numbers: bytes) -> bytes:
@@ -71,6 +72,11 @@ CACHES = {
                    "ended now|-|aes128|-128|krbtgt/R@R",
                    "in 2 h|in 1 s|aes128|-|krbtgt/R@R", "starts in 2 min|now|1!|-|krbtgt/R@R",
                    "starts in 1 s|53 y ago|77|-|h/a@R", widths=(15, 8, 7, 13)),
+    # A ticket's own name stands for a server without a realm alone.
+    ("4 tickets", (ends(ticket=OWN), ends(ticket=OWN, server=Name((b"h",), b"")), ends(server=Name((b"h",), b"")),
+                   ends(ticket=OWN[:-1], server=Name((), b"")))): of_tickets(
+        "-|-|aes128|aes256|krbtgt/R@R", "-|-|aes128|aes256|h/b@S", "-|-|aes128|-|h@", "-|-|aes128|-|@",
+        widths=(4, 5, 7, 6)),
 }
 
 # Files without a time, and their blocks. The first bytes say that `s` is a cache.

@@ -1,10 +1,11 @@
-"""The enctype and the kvno that JSON has of a ticket by its own bytes. Expected values are written by hand, by X.690,
-and MIT's klist shows the enctype too."""
+"""The enctype, the kvno and the server that JSON has of a ticket by its own bytes. Expected values are written by hand,
+by X.690, and MIT's klist shows the enctype too."""
 
 from collections.abc import Callable
 from dataclasses import replace
 
-from makers.images import TICKET, TICKET_FIELDS, TICKET_VERSION, cache, element, encrypted, ticket
+from makers.images import (TICKET, TICKET_FIELDS, TICKET_VERSION, Name, cache, element, encrypted, own_server,
+                           ticket)
 from peers.beside_mit import are_there, as_json, differing_types, ticket_types
 from peers.corpus import files
 from runs.harness import Report, folder_of
@@ -55,10 +56,45 @@ ROWS: dict[str, tuple[bytes, Encryption]] = {
 }
 
 
+def of_a(*changes: tuple[str, str]) -> bytes:
+    """Returns the fields of a ticket for a@R with some bytes replaced."""
+    made = "a003020105 a1031b0152 a20e300c a003020101 a1053003 1b0161"
+    for old, new in changes:
+        made = made.replace(old, new)
+    return bytes.fromhex(made)
+
+
+# The first fields of tickets, and the server that JSON has then.
+SERVERS: dict[str, tuple[bytes, str | None]] = {
+    "krbtgt": (TICKET_FIELDS, "krbtgt/R@R"), "one component": (of_a(), "a@R"),
+    "none": (own_server(Name(())), "@R"), "empty ones": (own_server(Name((b"", b""), b"")), "/@"),
+    "not UTF-8": (own_server(Name((b"\xff",))), "ff4052"),
+    "quoted": (own_server(Name((b"a/b", b"c@\n"), b"\\")), r"a\/b/c\@\n@\\"),
+    "long ones": (own_server(Name((b"x" * 200, b"y" * 70_000))), "x" * 200 + "/" + "y" * 70_000 + "@R"),
+    "many": (own_server(Name((b"a",) * 1_000)), "/".join("a" * 1_000) + "@R"),
+    **{f"the type {it}": (own_server(Name((b"a",)), bytes.fromhex(it)), "a@R") for it in ("80000000", "7fffffff")},
+    **{f"the type {it}": (own_server(Name((b"a",)), bytes.fromhex(it)), None)
+       for it in ("0080000000", "ff7fffffff", "0001", "")},
+    **{name: (of_a(*changes), None) for name, changes in {
+        "a realm of another tag": [("1b0152", "0c0152")], "two realms": [("a1031b0152", "a1061b01521b0152")],
+        "no string in the realm": [("a1031b0152", "a100")], "no type": [("a20e300c a003020101", "a2093007")],
+        "no [1]": [("a20e300c", "a2073005"), ("a1053003 1b0161", "")],
+        "bytes after [1]": [("a20e300c", "a210300e"), ("1b0161", "1b01610500")],
+        "an element after the strings": [("a20e300c", "a210300e"), ("a1053003 1b0161", "a10730031b01613000")],
+        "a byte after a string": [("a20e300c", "a20f300d"), ("a1053003 1b0161", "a10630041b016100")],
+        "a component of another tag": [("1b0161", "0c0161")], "a string that is cut": [("1b0161", "1b0261")],
+        "a longer length": [("a20e300c", "a20f300d"), ("a1053003 1b0161", "a10630041b810161")]}.items()},
+}
+
+
 def check(report: Report, program: str) -> None:
     """Compares what JSON has of each ticket, and the enctypes with those that MIT's klist shows of them and of the
     files in `corpus`, but for the one of version 2."""
     is_mit = are_there(report, "enctypes of tickets beside MIT's klist", "klist")
+    with folder_of({"c": cache(*(replace(TICKET, ticket=ticket(DATA, it)) for it, _ in SERVERS.values()))}) as folder:
+        for (name, (_, server)), one in zip(SERVERS.items(), as_json(program, folder, "c")["tickets"], strict=True):
+            got, label = (one["ticket_etype"], [*one.items()][-1]), "ticket_server" + "_hex" * (name == "not UTF-8")
+            report.check(f"the server: {name}", [] if got == (18, (label, server)) else [f"{got}, not {server}"])
     with folder_of({"c": cache(*(replace(TICKET, ticket=data) for data, _ in ROWS.values()))}) as folder:
         for (name, (_, wanted)), one in zip(ROWS.items(), as_json(program, folder, "c")["tickets"], strict=True):
             got = tuple(one[f"ticket_{part}"] for part in ("etype", "etype_name", "kvno"))

@@ -8,7 +8,7 @@ from functools import partial
 from keytabs.edits import DAMAGED
 from keytabs.ktutil_lines import KEY
 from makers.images import (B, END, HOST, OFFSET, PA_TYPE, TICKET, TWO, USUAL, VERSION_3, Entry, Name, cache, config,
-                           header_field, hole, keytab, old, record)
+                           encrypted, header_field, hole, keytab, old, record, ticket)
 from runs.harness import Case, text
 from runs.undisturbed import Run, Undisturbed, frame, in_place, undisturbed
 
@@ -16,7 +16,9 @@ SCRIPT = b"add 3 17 1700000000 000102030405060708090a0b0c0d0e0f host/a@R\n"  # t
 OLD, NEW = keytab(), keytab(HOST)  # the file before and after it
 CLASH = keytab(replace(B, key=b"other"))  # a keytab that clashes with TWO
 WALK = b"start\nstep 0\n"
-VALID = cache(replace(TICKET, endtime=2**32 - 1), PA_TYPE, fields=OFFSET)  # its ticket is valid whenever a test runs
+# Its ticket, whose own bytes alone have the realm of its server, is valid whenever a test runs.
+VALID = cache(replace(TICKET, server=Name((b"krbtgt", b"R"), b""), ticket=ticket(encrypted(b"\x12")),
+                      endtime=2**32 - 1), PA_TYPE, fields=OFFSET)
 
 
 @dataclass(frozen=True)

@@ -10,9 +10,9 @@ chain a b c x y is_b is_c = is_c ∙ ap (λ t. t ++ y) is_b ∙ append_assoc a x
 pub two_members : (a b : Member) (old t new : List Token) → t ≡ old ++ member_tokens a → new ≡ t ++ member_tokens b → new ≡ old ++ tokens_of (a ∷ b ∷ [])
 two_members a b old t new e1 e2 = rw (e2, e1) (simp (append_assoc, append-nil))
 
-pub three_members : (a b c : Member) (old t u new : List Token) → t ≡ old ++ member_tokens a → u ≡ t ++ member_tokens b → new ≡ u ++ member_tokens c
-    → new ≡ old ++ tokens_of (a ∷ b ∷ c ∷ [])
-three_members a b c old t u new e1 e2 e3 = rw (e3, e2, e1) (simp (append_assoc, append-nil))
+pub four_members : (a b c d : Member) (old t u v new : List Token) → t ≡ old ++ member_tokens a → u ≡ t ++ member_tokens b → v ≡ u ++ member_tokens c → new ≡ v ++ member_tokens d
+    → new ≡ old ++ tokens_of (a ∷ b ∷ c ∷ d ∷ [])
+four_members a b c d old t u v new e1 e2 e3 e4 = rw (e4, e3, e2, e1) (simp (append_assoc, append-nil))
 
 -- ---- objects
 

@@ -1,5 +1,5 @@
 -- The names that the proofs cite most, passed on from one place. Declares nothing.
-unfoldable pub use Rattle.krb_json.specs.Cache.{encryption_members, size_members, flag_members, time_members, ticket_value, party_members, cache_value, config_value}
+unfoldable pub use Rattle.krb_json.specs.Cache.{own_members, size_members, flag_members, time_members, ticket_value, party_members, cache_members, cache_value, config_value}
 unfoldable pub use Rattle.krb_json.specs.Check.{check_members, about_members, check_value, refused_value}
 unfoldable pub use Rattle.krb_json.specs.Escaped.{escaped}
 unfoldable pub use Rattle.krb_json.specs.Keytab.{entry_value, keytab_value, key_members, owner_members}
@@ -10,7 +10,7 @@ pub use Rattle.std.proofs.lemmas.Result.{on_ok_weaker, err_from_is_err_and, on_e
 pub use Rattle.std.specs.List.{flat_map, list_any, cons_option, prefix_len}
 pub use Rattle.std.specs.Prelude.{IsFalse, ltb, filter, ⊤, slice_index_or}
 pub use Rattle.std.specs.Str.{is_utf8, bytes_eq}
-pub use Rattle.krb_json.specs.Cache.{integer_or_null, name_of_etype, config_values, ticket_values, shown_values, about_member, cache_json_text, shown_by}
+pub use Rattle.krb_json.specs.Cache.{own_server_member, offset_value, integer_or_null, name_of_etype, config_values, ticket_values, shown_values, about_member, cache_json_text, shown_by}
 pub use Rattle.krb_json.specs.Check.{mode_value, finding_value, first_members, missing_value, entry_finding, entry_findings, finding_values, check_json_text}
 pub use Rattle.krb_json.specs.Escaped.{text_of, is_special, is_pair, json_text, escape, is_second, held, single}
 pub use Rattle.krb_json.specs.Keytab.{entry_values, keytab_json_text}
@@ -39,5 +39,6 @@ pub use Rattle.krb_findings.specs.declared.finding.TheConstants.{ABOUT_ENTRIES}
 pub use Rattle.std.proofs.lemmas.Str.{IsUtf8-from_is_utf8, is_utf8-from_IsUtf8, IsUtf8-from_ascii, encode_ascii}
 pub use Rattle.krb_text.specs.Flags.{flag_table, is_set, flag_letters_of}
 pub use Rattle.json.specs.Value.{items_of}
-pub use Rattle.krb_ccache.specs.Ticket.{ticket_encryption}
+pub use Rattle.krb_ccache.specs.Header.{offset_in}
+pub use Rattle.krb_ccache.specs.Ticket.{ticket_encryption, ticket_server}
 pub use Rattle.json.proofs.Printed.Strings.{content-escape, lex-escape, escape_byte_plain}

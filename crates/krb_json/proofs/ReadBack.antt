@@ -1,5 +1,5 @@
 -- What is written is read back.
-use Rattle.krb_json.proofs.Cited.{◌≡◌, ℕ, ◌<◌, ◌≤◌, ◌^◌, Bool, true, false, cond, List, [], ◌∷◌, ◌++◌, codes, Option, None, Some, lit<, refl, arith, length, is_utf8, depth, items_depth, members_depth, HasNumbers, ItemsHaveNumbers, MembersHaveNumbers, name_text, CacheState, PlacedCredential, placed_credentials, ConfigParts, json_text, Member, object_of, mode_value, check_members, first_members, about_members, finding_value, finding_values, missing_value, check_value, refused_value, members_of, etype_members, file_members, text_member, text_or_null, fault_value, digits_of, owner_members, key_members, entry_value, entry_values, keytab_value, party_members, time_members, flag_members, integer_or_null, name_of_etype, encryption_members, size_members, about_member, ticket_value, config_value, ticket_values, config_values, cache_value, IsPlain, ArePlain, items_of, ℤ, pos, option_map, FitsSigned, w64, fault_of, KeytabState, store_of, ticket_encryption, CheckParts, etype_name_of}
+use Rattle.krb_json.proofs.Cited.{◌≡◌, ℕ, ◌<◌, ◌≤◌, ◌^◌, Bool, true, false, cond, List, [], ◌∷◌, ◌++◌, codes, Option, None, Some, lit<, refl, arith, length, is_utf8, depth, items_depth, members_depth, HasNumbers, ItemsHaveNumbers, MembersHaveNumbers, name_text, CacheState, PlacedCredential, placed_credentials, ConfigParts, json_text, Member, object_of, mode_value, check_members, first_members, about_members, finding_value, finding_values, missing_value, check_value, refused_value, members_of, etype_members, file_members, text_member, text_or_null, fault_value, digits_of, owner_members, key_members, entry_value, entry_values, keytab_value, party_members, time_members, flag_members, integer_or_null, name_of_etype, own_server_member, own_members, offset_value, size_members, about_member, ticket_value, config_value, ticket_values, config_values, cache_members, cache_value, IsPlain, ArePlain, items_of, ℤ, pos, option_map, FitsSigned, w64, fault_of, KeytabState, store_of, offset_in, ticket_server, ticket_encryption, CheckParts, etype_name_of}
 use Rattle.json.specs.Json.{Json, string, document}
 use Rattle.json.proofs.Printed.Decimals.{IsNumber-decimal, IsNumber-signed_decimal}
 use Rattle.krb_wire.specs.declared.format.KtFormat.{KtFormat}
@@ -14,6 +14,7 @@ use Rattle.krb_ccache.specs.declared.version.Version.{Version}
 use Rattle.krb_ccache.specs.declared.version.Version.TheVariants.{V3, V4}
 use Rattle.krb_ccache.specs.Store as cache
 use Rattle.krb_ccache.specs.Credential.{FitsTimes}
+use Rattle.krb_ccache.specs.declared.offset.Offset.{Offset}
 use Rattle.krb_ccache.specs.declared.ticket.TicketEncryption.{TicketEncryption}
 use Rattle.krb_audit.specs.declared.counts.Counts.{Counts}
 use Rattle.krb_findings.specs.declared.finding.Finding.{Finding}
@@ -71,20 +72,28 @@ integer_depth : (o : Option ℤ) → depth (integer_or_null o) ≡ 0
 integer_depth None = refl
 integer_depth (Some n) = refl
 
-encryption_depth : (o : Option TicketEncryption) → members_depth (members_of (encryption_members o)) ≡ 0
-unfolding encryption_members
-encryption_depth None = omega arith
-encryption_depth (Some e) = omega (arith, or_null_depth (name_of_etype e.etype), integer_depth (option_map pos e.kvno))
+pub own_server_numbers : (o : Option Parts) → HasNumbers (own_server_member o).1
+own_server_numbers None = tt
+own_server_numbers (Some p) = text_numbers (codes "ticket_server") (name_text p)
+
+own_server_depth : (o : Option Parts) → depth (own_server_member o).1 ≡ 0
+own_server_depth None = refl
+own_server_depth (Some p) = text_depth (codes "ticket_server") (name_text p)
+
+own_depth : (o : Option TicketEncryption) (server : Option Parts) → members_depth (members_of (own_members o server)) ≡ 0
+unfolding own_members
+own_depth None server = omega (arith, own_server_depth server)
+own_depth (Some e) server = omega (arith, or_null_depth (name_of_etype e.etype), integer_depth (option_map pos e.kvno), own_server_depth server)
 
 pub ticket_is_plain : (x : PlacedCredential) → x.0 < 2 ^ 32 → FitsTimes x.1.times → x.1.flags < 2 ^ 32 → x.1.key.enctype < 2 ^ 16 → length x.1.addresses < 2 ^ 64 → length x.1.ticket < 2 ^ 64
-    → MembersHaveNumbers (members_of (encryption_members (ticket_encryption x.1.ticket))) → IsPlain (ticket_value x)
+    → MembersHaveNumbers (members_of (own_members (ticket_encryption x.1.ticket) (ticket_server x.1.ticket))) → IsPlain (ticket_value x)
 unfolding ticket_value party_members time_members flag_members etype_members size_members
-ticket_is_plain x place times flags enctype addresses ticket encryption =
+ticket_is_plain x place times flags enctype addresses ticket own =
     let client = name_text x.1.client in
     let server = name_text x.1.server in
     record {
-      numbers = search (arith, IsNumber-decimal, text_numbers, or_null_numbers, times.authtime, times.starttime, times.endtime, times.renew_till, encryption);
-      flat = omega (arith, text_depth (codes "client") client, text_depth (codes "server") server, or_null_depth (etype_name_of x.1.key.enctype), encryption_depth (ticket_encryption x.1.ticket));
+      numbers = search (arith, IsNumber-decimal, text_numbers, or_null_numbers, times.authtime, times.starttime, times.endtime, times.renew_till, own);
+      flat = omega (arith, text_depth (codes "client") client, text_depth (codes "server") server, or_null_depth (etype_name_of x.1.key.enctype), own_depth (ticket_encryption x.1.ticket) (ticket_server x.1.ticket));
     }
 
 about_numbers : (o : Option (List ℕ)) → HasNumbers (about_member o).1
@@ -159,6 +168,15 @@ fault_is_plain fault small = record {
 pub no_fault_is_plain : IsPlain (fault_value None)
 no_fault_is_plain = record { numbers = tt; flat = omega arith }
 
+pub offset_is_plain : (o : Offset) → FitsSigned w64 o.seconds → FitsSigned w64 o.micros → IsPlain (offset_value (Some o))
+offset_is_plain o seconds micros = record {
+  numbers = (integer_numbers o.seconds seconds, (integer_numbers o.micros micros, tt));
+  flat = omega arith;
+}
+
+pub no_offset_is_plain : IsPlain (offset_value None)
+no_offset_is_plain = record { numbers = tt; flat = omega arith }
+
 -- ---- arrays
 
 plain_numbers : (vs : List Json) → ArePlain vs → ItemsHaveNumbers (items_of vs)
@@ -203,10 +221,10 @@ cache_version_small : (v : Version) → cache.version_byte v < 2 ^ 64
 cache_version_small V3 = lit< tt
 cache_version_small V4 = lit< tt
 
-pub cache_is_read : (file : List ℕ) (k : CacheState) → ArePlain (ticket_values (placed_credentials k)) → ArePlain (config_values (placed_credentials k)) → IsPlain (fault_value (fault_of (cache.store_of k)))
+pub cache_is_read : (file : List ℕ) (k : CacheState) → IsPlain (offset_value (offset_in k.header)) → ArePlain (ticket_values (placed_credentials k)) → ArePlain (config_values (placed_credentials k)) → IsPlain (fault_value (fault_of (cache.store_of k)))
     → document (json_text (cache_value file k)) ≡ Some (cache_value file k)
-unfolding cache_value file_members
-cache_is_read file k tickets configs fault =
+unfolding cache_value cache_members file_members
+cache_is_read file k offset tickets configs fault =
     let ts = ticket_values (placed_credentials k) in
     let cs = config_values (placed_credentials k) in
     let name = name_text k.principal in
@@ -216,11 +234,11 @@ cache_is_read file k tickets configs fault =
         tt,
         (
           IsNumber-decimal (cache.version_byte k.version) (cache_version_small k.version),
-          (text_numbers (codes "default_principal") name, (plain_numbers ts tickets, (plain_numbers cs configs, (fault.numbers, tt)))),
+          (text_numbers (codes "default_principal") name, (offset.numbers, (plain_numbers ts tickets, (plain_numbers cs configs, (fault.numbers, tt))))),
         ),
       ),
     )
-    (omega (arith, text_depth (codes "default_principal") name, plain_depth ts tickets, plain_depth cs configs, fault.flat))
+    (omega (arith, text_depth (codes "default_principal") name, offset.flat, plain_depth ts tickets, plain_depth cs configs, fault.flat))
 
 -- ---- overviews
 

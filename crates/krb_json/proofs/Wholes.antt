@@ -1,5 +1,5 @@
 -- The text of a file, in pieces.
-use Rattle.krb_json.proofs.Cited.{◌≡◌, ℕ, Bool, false, List, [], ◌∷◌, ◌++◌, codes, refl, sym, ap, ◌∙◌, append_assoc, Json, end_array, json_tokens, members_tokens, name_text, CacheState, placed_credentials, text_of, Member, members_of, object_of, array_of, text_member, fault_value, file_members, entry_values, keytab_value, keytab_json_text, check_members, finding_values, check_value, check_json_text, status_members, Some, ticket_values, config_values, cache_value, cache_json_text, elements_text, head_tokens, between_tokens, tail_tokens, arrays_text, fault_of, KeytabState, store_of, CheckParts}
+use Rattle.krb_json.proofs.Cited.{◌≡◌, ℕ, Bool, false, List, [], ◌∷◌, ◌++◌, codes, refl, sym, ap, ◌∙◌, append_assoc, Json, end_array, json_tokens, members_tokens, CacheState, placed_credentials, text_of, Member, members_of, object_of, array_of, fault_value, file_members, entry_values, keytab_value, keytab_json_text, check_members, finding_values, check_value, check_json_text, status_members, Some, ticket_values, config_values, cache_members, cache_value, cache_json_text, elements_text, head_tokens, between_tokens, tail_tokens, arrays_text, fault_of, KeytabState, store_of, CheckParts}
 use Rattle.krb_wire.specs.Spelling.{version_byte}
 use Rattle.krb_ccache.specs.Store as cache
 use Rattle.krb_json.proofs.Arrays.{object_print, rest_print, members_end_object}
@@ -36,26 +36,24 @@ check_text file c status =
 regroup_five : (a b c d e n : List ℕ) → (a ++ (b ++ (c ++ (d ++ e)))) ++ n ≡ a ++ ((b ++ (c ++ d)) ++ (e ++ n))
 regroup_five a b c d e n = simp append_assoc refl
 
--- an object with two arrays, after a last member before them
-two_arrays : (ms : List Member) (m : Member) (ns : List Member) (one two : List ℕ) (vs ws : List Json) (n : List ℕ)
-    → text_of (json_tokens (object_of (ms ++ m ∷ (one, array_of vs) ∷ (two, array_of ws) ∷ ns))) ++ n
-    ≡ text_of (head_tokens (ms ++ m ∷ []) one) ++ ((elements_text false vs ++ (text_of (between_tokens two) ++ elements_text false ws)) ++ (text_of (tail_tokens ns) ++ n))
-two_arrays ms m ns one two vs ws n =
+-- an object with two arrays
+two_arrays : (ms ns : List Member) (one two : List ℕ) (vs ws : List Json) (n : List ℕ)
+    → text_of (json_tokens (object_of (ms ++ (one, array_of vs) ∷ (two, array_of ws) ∷ ns))) ++ n
+    ≡ text_of (head_tokens ms one) ++ ((elements_text false vs ++ (text_of (between_tokens two) ++ elements_text false ws)) ++ (text_of (tail_tokens ns) ++ n))
+two_arrays ms ns one two vs ws n =
     let rest : List Member = (two, array_of ws) ∷ ns in
-    let head = text_of (head_tokens (ms ++ m ∷ []) one) in
+    let head = text_of (head_tokens ms one) in
     let between = text_of (between_tokens two) in
     ap (λ l. l ++ n)
-    (ap (λ l. text_of (json_tokens (object_of l))) (sym (append_assoc ms (m ∷ []) ((one, array_of vs) ∷ rest)))
-    ∙ object_print (ms ++ m ∷ []) rest one vs
+    (object_print ms rest one vs
     ∙ ap (λ l. head ++ (elements_text false vs ++ l)) (rest_print ns two ws ∙ ap (λ l. between ++ (elements_text false ws ++ l)) (tail_print ns)))
     ∙ regroup_five head (elements_text false vs) between (elements_text false ws) (text_of (tail_tokens ns)) n
 
 pub cache_text : (file : List ℕ) (k : CacheState)
     → cache_json_text file k
-    ≡ text_of (head_tokens (file_members file (codes "ccache") (cache.version_byte k.version) ++ text_member (codes "default_principal") (name_text k.principal) ∷ []) (codes "tickets"))
+    ≡ text_of (head_tokens (cache_members file k) (codes "tickets"))
     ++ (arrays_text k ++ (text_of (tail_tokens ((codes "fault", fault_value (fault_of (cache.store_of k))) ∷ [])) ++ codes "\n"))
 unfolding cache_value
 cache_text file k =
     let xs = placed_credentials k in
-    two_arrays (file_members file (codes "ccache") (cache.version_byte k.version)) (text_member (codes "default_principal") (name_text k.principal))
-    ((codes "fault", fault_value (fault_of (cache.store_of k))) ∷ []) (codes "tickets") (codes "config") (ticket_values xs) (config_values xs) (codes "\n")
+    two_arrays (cache_members file k) ((codes "fault", fault_value (fault_of (cache.store_of k))) ∷ []) (codes "tickets") (codes "config") (ticket_values xs) (config_values xs) (codes "\n")

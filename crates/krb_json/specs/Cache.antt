@@ -3,11 +3,14 @@ use Rattle.std.specs.Prelude.{ℕ, ◌^◌, ◌==◌, ℤ, pos, negsuc, List, []
 use Rattle.std.specs.Fmt.{signed_decimal}
 use Rattle.json.specs.Json.{Json, null, boolean, number, string}
 use Rattle.krb_wire.specs.Names.{name_text}
+use Rattle.krb_wire.specs.Spelling.{Parts}
 use Rattle.krb_walk.specs.Store.{fault_of}
 use Rattle.krb_ccache.specs.declared.credential.times.Times.{Times}
 use Rattle.krb_ccache.specs.Credential.{CredParts}
 use Rattle.krb_ccache.specs.declared.ticket.TicketEncryption.{TicketEncryption}
-use Rattle.krb_ccache.specs.Ticket.{ticket_encryption}
+use Rattle.krb_ccache.specs.declared.offset.Offset.{Offset}
+use Rattle.krb_ccache.specs.Header.{offset_in}
+use Rattle.krb_ccache.specs.Ticket.{ticket_encryption, ticket_server}
 use Rattle.krb_ccache.specs.Config.{ConfigParts, config_name}
 use Rattle.krb_ccache.specs.Store.{CacheState, PlacedCredential, version_byte, store_of, placed_credentials}
 use Rattle.krb_text.specs.Etype.{etype_name_of}
@@ -48,22 +51,27 @@ abbrev pub integer_or_null : Option ℤ → Json
 integer_or_null None = null
 integer_or_null (Some n) = number (signed_decimal n)
 
--- a ticket's own enctype, its name, and the kvno, each null if the ticket does not have it
-unfoldable pub encryption_members : Option TicketEncryption → List Member
-encryption_members encryption =
+-- the server that a ticket names itself, or null if it does not
+abbrev pub own_server_member : Option Parts → Member
+own_server_member None = (codes "ticket_server", null)
+own_server_member (Some p) = text_member (codes "ticket_server") (name_text p)
+
+-- a ticket's own enctype, its name, the kvno, and its server, each null if the ticket does not have it
+unfoldable pub own_members : Option TicketEncryption → Option Parts → List Member
+own_members encryption server =
     (codes "ticket_etype", integer_or_null (option_map (λ e. e.etype) encryption))
     ∷ (codes "ticket_etype_name", text_or_null (option_and_then (λ e. name_of_etype e.etype) encryption))
     ∷ (codes "ticket_kvno", integer_or_null (option_and_then (λ e. option_map pos e.kvno) encryption))
+    ∷ own_server_member server
     ∷ []
 
--- whether it is encrypted in another ticket's session key, its number of addresses, the ticket's length, and its own
--- encryption
+-- whether it is encrypted in another ticket's session key, its number of addresses, the ticket's length, and what it has itself
 unfoldable pub size_members : CredParts → List Member
 size_members c =
     (codes "is_skey", boolean (not (c.is_skey == 0)))
     ∷ (codes "addresses", number_of (length c.addresses))
     ∷ (codes "ticket_length", number_of (length c.ticket))
-    ∷ encryption_members (ticket_encryption c.ticket)
+    ∷ own_members (ticket_encryption c.ticket) (ticket_server c.ticket)
 
 -- a ticket
 unfoldable pub ticket_value : PlacedCredential → Json
@@ -113,13 +121,24 @@ ticket_values xs = shown_values Tickets xs
 abbrev pub config_values : List PlacedCredential → List Json
 config_values xs = shown_values Configs xs
 
+-- the clock's offset from the KDC's, or null if the header has none
+abbrev pub offset_value : Option Offset → Json
+offset_value None = null
+offset_value (Some o) =
+    object_of ((codes "seconds", integer_or_null (Some o.seconds)) ∷ (codes "microseconds", integer_or_null (Some o.micros)) ∷ [])
+
+-- what comes before the tickets: the name of the file, its kind and version, the default principal, and the offset
+unfoldable pub cache_members : List ℕ → CacheState → List Member
+cache_members file k =
+    file_members file (codes "ccache") (version_byte k.version)
+    ++ (text_member (codes "default_principal") (name_text k.principal) ∷ (codes "offset", offset_value (offset_in k.header)) ∷ [])
+
 -- a cache, with the name of its file
 unfoldable pub cache_value : List ℕ → CacheState → Json
 cache_value file k =
     object_of (
-    file_members file (codes "ccache") (version_byte k.version)
-    ++ (text_member (codes "default_principal") (name_text k.principal)
-    ∷ (codes "tickets", array_of (ticket_values (placed_credentials k)))
+    cache_members file k
+    ++ ((codes "tickets", array_of (ticket_values (placed_credentials k)))
     ∷ (codes "config", array_of (config_values (placed_credentials k)))
     ∷ (codes "fault", fault_value (fault_of (store_of k)))
     ∷ [])

@@ -8,7 +8,7 @@ use Rattle.krb_walk.specs.declared.fault.Fault.{Fault}
 use Rattle.krb_walk.specs.Phrases.{fault_number}
 use Rattle.krb_text.specs.Etype.{etype_name_of}
 use Rattle.krb_json.specs.declared.put.Label.{Label}
-use Rattle.krb_json.specs.declared.put.Label.TheVariants.{Principal, DefaultPrincipal, Client, Server, Key, Value, Error}
+use Rattle.krb_json.specs.declared.put.Label.TheVariants.{Principal, DefaultPrincipal, Client, Server, TicketServer, Key, Value, Error}
 
 -- a member of an object: its name and its value
 abbrev pub Member : Type 0
@@ -70,6 +70,7 @@ label_text Principal = codes "principal"
 label_text DefaultPrincipal = codes "default_principal"
 label_text Client = codes "client"
 label_text Server = codes "server"
+label_text TicketServer = codes "ticket_server"
 label_text Key = codes "key"
 label_text Value = codes "value"
 label_text Error = codes "error"

@@ -1,16 +1,15 @@
 //! A credential cache as JSON.
 
-ghost use Rattle.std.specs.Prelude.{◌≡◌, ◌++◌, [], ◌∷◌, Some, OnOk, IsFalse, codes, false};
+ghost use Rattle.std.specs.Prelude.{◌≡◌, [], ◌∷◌, Some, OnOk, IsFalse, codes, false};
 ghost use Rattle.std.specs.List.{cons_option};
 ghost use Rattle.json.specs.Json.{document};
-ghost use Rattle.krb_wire.specs.Names.{name_text};
 ghost use Rattle.krb_ccache.specs.Config.{config_name};
+ghost use Rattle.krb_ccache.specs.Header.{offset_in};
 ghost use Rattle.krb_ccache.specs.Store.{version_byte, placed_credentials};
 ghost use Rattle.krb_text.specs.Gathered.{Gathers, Prints};
 ghost use Rattle.krb_json.specs.Escaped.{json_text};
-ghost use Rattle.krb_json.specs.Members.{file_members, text_member};
-ghost use Rattle.krb_json.specs.Cache.{shown_by, shown_values, ticket_values, config_values, cache_value, cache_json_text};
-ghost use Rattle.krb_json.specs.Pieces.{Adds, ArePlain, Begins, arrays_text, head_tokens};
+ghost use Rattle.krb_json.specs.Cache.{cache_members, offset_value, shown_by, shown_values, ticket_values, config_values, cache_value, cache_json_text};
+ghost use Rattle.krb_json.specs.Pieces.{Adds, ArePlain, Begins, IsPlain, arrays_text, head_tokens};
 
 use crate::elements::Elements;
 use crate::put::Label;
@@ -36,13 +35,14 @@ fn begin<A: Allocator + Copy, B: Allocator>(
     elements: &mut Elements<A>,
 ) -> Result<(), NoMemory>
     requires { elements.old.piece ≡ [] }
-    ensures { OnOk result (Begins elements.old.gathered.items elements.new
-        (head_tokens (file_members file.now (codes "ccache") (version_byte cache.now.state.version)
-        ++ text_member (codes "default_principal") (name_text cache.now.state.principal) ∷ []) (codes "tickets"))) }
+    ensures begins { OnOk result (Begins elements.old.gathered.items elements.new
+        (head_tokens (cache_members file.now cache.now.state) (codes "tickets"))) }
+    ensures plain { OnOk result (IsPlain (offset_value (offset_in cache.now.state.header))) }
 {
     let piece = &mut elements.piece;
     piece.begin_file(file, "ccache", version_number(cache.version()))?;
     piece.name(Label::DefaultPrincipal, &cache.default_principal())?;
+    piece.offset(cache.offset())?;
     elements.begin_array("tickets")
 }
 
@@ -117,9 +117,9 @@ fn send_arrays<A: Allocator + Copy, B: Allocator, W: Write>(
     send_shown(Shown::Configs, cache, elements, out)
 }
 
-/// Writes a cache as one JSON object (RFC 8259) and a newline: its file name, its default principal, an element for
-/// each ticket and each configuration entry, in file order, and the fault if the cache is damaged. No session key is
-/// written. The text goes out in large writes; if one fails, a prefix of the text has been written.
+/// Writes a cache as one JSON object (RFC 8259) and a newline: its file name, its default principal, its time offset,
+/// an element for each ticket and each configuration entry, in file order, and the fault if the cache is damaged. No
+/// session key is written. The text goes out in large writes; if one fails, a prefix of the text has been written.
 pub fn cache_json<A: Allocator + Copy, B: Allocator, W: Write>(
     alloc: A,
     file: &str,

@@ -2,10 +2,12 @@
 
 ghost use Rattle.std.specs.Prelude.{◌≡◌, ◌++◌, ◌∷◌, OnOk, codes};
 ghost use Rattle.json.specs.Token.{begin_object};
+ghost use Rattle.krb_json.specs.Cache.{offset_value};
 ghost use Rattle.krb_json.specs.Members.{file_members, fault_value, status_members};
 ghost use Rattle.krb_json.specs.Pieces.{member_tokens, tokens_of, tail_tokens, IsPlain};
 
 use crate::piece::Piece;
+use krb_ccache::Offset;
 use krb_walk::Fault;
 use krb_wire::NoMemory;
 use std::alloc::Allocator;
@@ -20,6 +22,21 @@ impl<A: Allocator> Piece<A> {
         self.string("file", file)?;
         self.string("kind", kind)?;
         self.number("version", version)
+    }
+
+    /// Writes the time offset of a cache, or null if it has none.
+    #[tactic(auto, using(crate::proofs::ReadBack::offset_is_plain, crate::proofs::ReadBack::no_offset_is_plain))]
+    pub fn offset(&mut self, offset: Option<Offset>) -> Result<(), NoMemory>
+        ensures tokens { OnOk result (self.new ≡ self.old ++ member_tokens (codes "offset", offset_value offset)) }
+        ensures plain { OnOk result (IsPlain (offset_value offset)) }
+    {
+        let Some(offset) = offset else {
+            return self.null("offset");
+        };
+        self.begin_object_at("offset")?;
+        self.integer("seconds", Some(offset.seconds as i64))?;
+        self.integer("microseconds", Some(offset.micros as i64))?;
+        self.end_object()
     }
 
     // Writes the kind and the place of the fault, or null if there is none.

@@ -24,7 +24,7 @@ use std::mem;
 /// A piece of JSON text under construction, in memory that is reused from piece to piece. Contracts see its tokens.
 #[derive(Drop)]
 pub struct Piece<A: Allocator> {
-    alloc: A,
+    pub alloc: A,
     writer: Writer<A>,
     // Scratch space for the next string.
     text: Vec<u8, A>,

@@ -3,15 +3,15 @@
 ghost use Rattle.std.specs.Prelude.{◌≡◌, ◌<◌, ◌^◌, length, ◌++◌, OnOk, pos, option_map, option_and_then, option_copied};
 ghost use Rattle.krb_ccache.specs.Credential.{FitsTimes};
 ghost use Rattle.krb_ccache.specs.Config.{config_parts};
-ghost use Rattle.krb_ccache.specs.Ticket.{ticket_encryption};
-ghost use Rattle.json.specs.Tree.{json_tokens, MembersHaveNumbers};
-ghost use Rattle.krb_json.specs.Cache.{party_members, time_members, flag_members, name_of_etype, encryption_members, size_members, ticket_value, about_member, config_value};
+ghost use Rattle.krb_ccache.specs.Ticket.{ticket_encryption, ticket_server};
+ghost use Rattle.json.specs.Tree.{json_tokens, HasNumbers, MembersHaveNumbers};
+ghost use Rattle.krb_json.specs.Cache.{party_members, time_members, flag_members, name_of_etype, own_server_member, own_members, size_members, ticket_value, about_member, config_value};
 ghost use Rattle.krb_json.specs.Members.{members_of};
 ghost use Rattle.krb_json.specs.Pieces.{tokens_of, IsPlain, member_tokens};
 
 use crate::piece::Piece;
 use crate::put::Label;
-use krb_ccache::{ConfigName, CredView, TicketEncryption, ticket_encryption};
+use krb_ccache::{ConfigName, CredView, TicketEncryption, ticket_encryption, ticket_server};
 use krb_text::etype_name;
 use krb_wire::NoMemory;
 use std::alloc::Allocator;
@@ -30,7 +30,7 @@ fn kvno_of(encryption: Option<TicketEncryption>) -> Option<i64>
     Some(encryption?.kvno? as i64)
 }
 
-impl<A: Allocator> Piece<A> {
+impl<A: Allocator + Copy> Piece<A> {
     // Writes a ticket's place, client and server.
     #[tactic(auto, unfolding(crate::specs::Cache::party_members))]
     fn parties(&mut self, place: u32, ticket: &CredView<'_>) -> Result<(), NoMemory>
@@ -60,30 +60,47 @@ impl<A: Allocator> Piece<A> {
         self.number("flags_value", flags as u64)
     }
 
-    // Writes its own enctype, the name of that, and the kvno, or null for what it does not have.
-    #[tactic(auto, unfolding(crate::specs::Cache::encryption_members))]
-    fn encryption(&mut self, encryption: Option<TicketEncryption>) -> Result<(), NoMemory>
-        ensures tokens { OnOk result (self.new ≡ self.old ++ tokens_of (encryption_members encryption)) }
-        ensures numbers { OnOk result (MembersHaveNumbers (members_of (encryption_members encryption))) }
+    // Writes the server that a ticket names itself, or null if it does not.
+    #[tactic(auto, using(crate::proofs::ReadBack::own_server_numbers))]
+    fn own_server(&mut self, ticket: &[u8]) -> Result<(), NoMemory>
+        ensures tokens { OnOk result (self.new
+            ≡ self.old ++ member_tokens (own_server_member (ticket_server ticket.now))) }
+        ensures numbers { OnOk result (HasNumbers (own_server_member (ticket_server ticket.now)).1) }
     {
+        match ticket_server(ticket) {
+            Some(server) => self.name(Label::TicketServer, &server.copy(self.alloc)?),
+            None => self.null("ticket_server"),
+        }
+    }
+
+    // Writes a ticket's own enctype, the name of that, the kvno, and its server, or null for what it does not have.
+    #[tactic(auto, unfolding(crate::specs::Cache::own_members))]
+    fn own(&mut self, ticket: &[u8]) -> Result<(), NoMemory>
+        ensures tokens { OnOk result (self.new
+            ≡ self.old ++ tokens_of (own_members (ticket_encryption ticket.now) (ticket_server ticket.now))) }
+        ensures numbers { OnOk result (MembersHaveNumbers
+            (members_of (own_members (ticket_encryption ticket.now) (ticket_server ticket.now)))) }
+    {
+        let encryption = ticket_encryption(ticket);
         self.integer("ticket_etype", encryption.map(|it| it.etype as i64))?;
         self.string_or_null("ticket_etype_name", name_of(encryption))?;
-        self.integer("ticket_kvno", kvno_of(encryption))
+        self.integer("ticket_kvno", kvno_of(encryption))?;
+        self.own_server(ticket)
     }
 
     // Writes whether it is encrypted in another ticket's session key, its number of addresses, the ticket's length, and
-    // its own encryption.
+    // what that has itself.
     fn sizes(&mut self, ticket: &CredView<'_>) -> Result<(), NoMemory>
         ensures tokens { OnOk result (self.new ≡ self.old ++ tokens_of (size_members ticket.now)) }
         ensures addresses { OnOk result (length ticket.now.addresses < 2 ^ 64) }
         ensures ticket { OnOk result (length ticket.now.ticket < 2 ^ 64) }
-        ensures numbers { OnOk result (MembersHaveNumbers
-            (members_of (encryption_members (ticket_encryption ticket.now.ticket)))) }
+        ensures numbers { OnOk result (MembersHaveNumbers (members_of
+            (own_members (ticket_encryption ticket.now.ticket) (ticket_server ticket.now.ticket)))) }
     {
         self.boolean("is_skey", ticket.is_skey() != 0)?;
         self.number("addresses", ticket.address_count() as u64)?;
         self.number("ticket_length", ticket.ticket().len() as u64)?;
-        self.encryption(ticket_encryption(ticket.ticket()))
+        self.own(ticket.ticket())
     }
 
     /// Writes a ticket of a cache as an object.
