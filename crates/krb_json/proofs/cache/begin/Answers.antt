@@ -1,5 +1,5 @@
-use Rattle.krb_json.proofs.ForAnswers.{codes, subst, on_ok_weaker, name_text, version_byte, file_members, text_member, Begins, ◌++◌, ◌∷◌, [], head_written, one_more_member}
-use Rattle.krb_json.proofs.Cited.{cache_members, offset_in, offset_value, Member}
+use Rattle.krb_json.proofs.ForAnswers.{codes, subst, on_ok_weaker, name_text, version_byte, Begins, ◌++◌, ◌∷◌, [], head_written, one_more_member}
+use Rattle.krb_json.proofs.Cited.{file_members, text_member, cache_members, offset_in, offset_value, Member}
 use Rattle.krb_json.proofs.cache.begin.Goals as goal
 
 pub returns-clause-begins : goal.returns-clause-begins
