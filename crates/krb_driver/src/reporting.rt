@@ -11,6 +11,7 @@ mod operand;
 mod piece;
 pub(crate) mod reported;
 mod said;
+mod ticket_words;
 mod words;
 mod writing;
 
@@ -35,6 +36,7 @@ pub use piece::MessagePiece;
 pub use said::append_said;
 use std::io::Write;
 use std::marker::Model;
+pub use ticket_words::name_near;
 pub use writing::write_pieces;
 
 /// An error output, and whether words that explain follow its messages.
@@ -80,7 +82,7 @@ fn error_message(error: RunError, file: &[u8]) -> Line<'_>
             line_message(line, "fault ", LineFault::UnknownWord.number())
         }
         RunError::LineRefused { line, code } => line_message(line, "refused ", code.number()),
-        RunError::NothingSelected(_) => message("refused 9"),
+        RunError::NothingSelected(_) | RunError::NoTickets(_) => message("refused 9"),
         RunError::OutputNotWritten | RunError::OutputIsTerminal => message("cannot write output"),
         RunError::ClockNotRead => message("cannot read the clock"),
         RunError::NoMemory => message("out of memory"),

@@ -1,7 +1,7 @@
 //! The verdict of a run that did its work.
 
 ghost use Rattle.std.specs.Prelude.{◌≡◌};
-ghost use Rattle.krb_driver.specs.RunErrors.{hiding, listing_verdict, verdict_status};
+ghost use Rattle.krb_driver.specs.RunErrors.{and_words, hiding, listing_verdict, no_words, verdict_status, without_words};
 
 use crate::reporting::reported::Reported;
 use krb_findings::{FindingSet, WeakEtypes};
@@ -28,6 +28,75 @@ pub struct Findings {
     pub v1_order: Order,
 }
 
+/// The lines of tickets whose words are to be explained.
+#[derive(Clone, Copy)]
+pub struct TicketWords {
+    pub user: bool,
+    pub unread: bool,
+    pub name: bool,
+    pub kvno: bool,
+    pub etype: bool,
+}
+
+impl TicketWords {
+    /// Returns none of them.
+    pub fn none() -> TicketWords
+        ensures { result ≡ no_words }
+    {
+        TicketWords {
+            user: false,
+            unread: false,
+            name: false,
+            kvno: false,
+            etype: false,
+        }
+    }
+
+    /// Returns these and others.
+    pub fn and(self, others: TicketWords) -> TicketWords
+        ensures { result ≡ and_words self others }
+    {
+        TicketWords {
+            user: self.user || others.user,
+            unread: self.unread || others.unread,
+            name: self.name || others.name,
+            kvno: self.kvno || others.kvno,
+            etype: self.etype || others.etype,
+        }
+    }
+
+    /// Returns these without others.
+    pub fn without(self, others: TicketWords) -> TicketWords
+        ensures { result ≡ without_words self others }
+    {
+        TicketWords {
+            user: self.user && !others.user,
+            unread: self.unread && !others.unread,
+            name: self.name && !others.name,
+            kvno: self.kvno && !others.kvno,
+            etype: self.etype && !others.etype,
+        }
+    }
+}
+
+/// Which tickets are looked at: those asked for by name, or those of services.
+#[derive(Clone, Copy)]
+pub enum TicketsSought {
+    Asked,
+    OfServices,
+}
+
+/// What a keytab said of a cache's tickets: which words are to be explained, the place of the keytab's entry that is named
+/// after them, the fault, whether something is wrong, and whether no ticket was looked at.
+#[derive(Clone, Copy)]
+pub struct Judged {
+    pub words: TicketWords,
+    pub near: Option<u32>,
+    pub fault: Option<Fault>,
+    pub is_wrong: bool,
+    pub is_without: bool,
+}
+
 /// How a run that did its work ends. What it printed may report that something is wrong.
 #[derive(Clone, Copy)]
 pub enum Verdict {
@@ -42,6 +111,8 @@ pub enum Verdict {
     Replied(Reported),
     /// The findings report it.
     Found(Findings),
+    /// The lines of tickets report it. The entry that is named, and the fault, are explained after the end.
+    Judged(Judged),
     /// No entry, or no ticket, is selected.
     NothingToRemove(FileKind),
     /// The same, of one of several files, which is reported at their end.
@@ -86,6 +157,7 @@ impl Verdict {
         match self {
             Verdict::Well | Verdict::HiddenFrom(_) | Verdict::NoEntry | Verdict::Without => 0,
             Verdict::Found(findings) => u8::from(findings.is_wrong),
+            Verdict::Judged(judged) => u8::from(judged.is_wrong),
             _ => 1,
         }
     }

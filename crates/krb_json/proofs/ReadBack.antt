@@ -174,9 +174,6 @@ offset_is_plain o seconds micros = record {
   flat = omega arith;
 }
 
-pub no_offset_is_plain : IsPlain (offset_value None)
-no_offset_is_plain = record { numbers = tt; flat = omega arith }
-
 -- ---- arrays
 
 plain_numbers : (vs : List Json) → ArePlain vs → ItemsHaveNumbers (items_of vs)

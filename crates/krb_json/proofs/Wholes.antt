@@ -1,5 +1,5 @@
 -- The text of a file, in pieces.
-use Rattle.krb_json.proofs.Cited.{◌≡◌, ℕ, Bool, false, List, [], ◌∷◌, ◌++◌, codes, refl, sym, ap, ◌∙◌, append_assoc, Json, end_array, json_tokens, members_tokens, CacheState, placed_credentials, text_of, Member, members_of, object_of, array_of, fault_value, file_members, entry_values, keytab_value, keytab_json_text, check_members, finding_values, check_value, check_json_text, status_members, Some, ticket_values, config_values, cache_members, cache_value, cache_json_text, elements_text, head_tokens, between_tokens, tail_tokens, arrays_text, fault_of, KeytabState, store_of, CheckParts}
+use Rattle.krb_json.proofs.Cited.{◌≡◌, ℕ, Bool, false, List, [], ◌∷◌, ◌++◌, codes, refl, ap, ◌∙◌, append_assoc, Json, end_array, json_tokens, members_tokens, CacheState, placed_credentials, text_of, Member, members_of, object_of, array_of, fault_value, file_members, entry_values, keytab_value, keytab_json_text, check_members, finding_values, check_value, check_json_text, status_members, Some, ticket_values, config_values, cache_members, cache_value, cache_json_text, elements_text, head_tokens, between_tokens, tail_tokens, arrays_text, fault_of, KeytabState, store_of, CheckParts}
 use Rattle.krb_wire.specs.Spelling.{version_byte}
 use Rattle.krb_ccache.specs.Store as cache
 use Rattle.krb_json.proofs.Arrays.{object_print, rest_print, members_end_object}

@@ -15,6 +15,7 @@ use crate::reporting::name_words::hidden_words;
 use crate::reporting::piece::MessagePiece::{self, Text};
 use crate::reporting::piece::{END, NONE};
 use crate::reporting::reported::{Failure, Reported};
+use crate::reporting::ticket_words::add_ticket_words;
 use crate::reporting::words::{error_words, listed_words, refusal_phrase, verdict_words};
 use crate::reporting::writing::{Gathered, add_pieces};
 use crate::verdict::{FileKind, Findings, Verdict};
@@ -30,6 +31,7 @@ fn add_items<E: Write>(verdict: Verdict, file: &[u8], gathered: &mut Gathered, e
     match verdict {
         Verdict::Replied(reported) => add_replies(&reported, file, gathered, err),
         Verdict::Found(findings) => add_findings(&findings, file, gathered, err),
+        Verdict::Judged(judged) => add_ticket_words(judged.words, gathered, err),
         _ => return,
     }
 }
@@ -131,8 +133,8 @@ fn add_word_lines<E: Write>(explained: FindingSet, gathered: &mut Gathered, err:
     }
 }
 
-// Returns the words for the fault that was found, if any.
-fn fault_words(file: &[u8], fault: Option<Fault>) -> Line<'_>
+/// Returns the words for the fault that was found, if any.
+pub fn fault_words(file: &[u8], fault: Option<Fault>) -> Line<'_>
     ensures { pieces_text result ≡ found_fault_words file.now fault }
 {
     match fault {

@@ -1,0 +1,74 @@
+-- What groups have of their entries.
+use Rattle.krb_match.proofs.Cited.{◌≡◌, ◌∙◌, ap, refl, arith, ℕ, Bool, true, false, cond, List, [], ◌∷◌, ◌++◌, ◌==◌, not, Option, Some, None, option_map, option_or, option_map_or, find, list_any, is_some, fold, find-append, append-nil, eqb-true, EntryParts, PlacedEntry, Stamp, is_newer, newer, newest_from, newest_version, stamp_of, GroupParts, first_of, firsts_of, with_entry, zero, suc, sym, is_new}
+use Rattle.krb_match.specs.Match.{etypes_from}
+
+-- the newer of two stamps is that of the newer entry
+newer_is : (s : Stamp) (e y : EntryParts) → s ≡ stamp_of e → newer s (stamp_of y) ≡ stamp_of (cond (is_newer e y) y e)
+newer_is s e y is = ap (λ (s : Stamp). newer s (stamp_of y)) is ∙ by (is_newer e y)
+  where
+    by : (b : Bool) → cond b (stamp_of y) (stamp_of e) ≡ stamp_of (cond b y e)
+    by true = refl
+    by false = refl
+
+group_newest_from : (g : GroupParts) (e : EntryParts) (ys : List PlacedEntry) → g.0 ≡ stamp_of e → option_map_or (λ g. g.0.kvno) (fold with_entry (Some g) ys) 0 ≡ option_map_or (λ e. e.version) (newest_from (Some e) ys) 0
+group_newest_from g e [] is = ap (λ (s : Stamp). s.kvno) is
+group_newest_from g e (y ∷ ys) is = group_newest_from (newer g.0 (stamp_of y.1), firsts_of (with_entry (Some g) y)) (cond (is_newer e y.1) y.1 e) ys (newer_is g.0 e y.1 is)
+
+pub group_newest : (ys : List PlacedEntry) → option_map_or (λ g. g.0.kvno) (fold with_entry None ys) 0 ≡ newest_version ys
+group_newest [] = refl
+group_newest (y ∷ ys) = group_newest_from (stamp_of y.1, (y.0, y.1.enctype) ∷ []) y.1 ys refl
+
+any_found : (t : ℕ → Bool) (n : ℕ) (fs : List (ℕ × ℕ)) → list_any (λ f. f.1 == n) fs ≡ true → t n ≡ true → is_some (find (λ f. t f.1) fs) ≡ true
+any_found t n [] any e = absurd cc
+any_found t n (f ∷ fs) any e = grind (arith, any, e, any_found t n fs, eqb-true f.1 n)
+
+or_found : (o p : Option (ℕ × ℕ)) → is_some o ≡ true → option_or o p ≡ o
+or_found None p e = absurd cc
+or_found (Some x) p e = refl
+
+first_from_group : (t : ℕ → Bool) (g : Option GroupParts) (ys : List PlacedEntry) → find (λ f. t f.1) (firsts_of (fold with_entry g ys)) ≡ option_or (find (λ f. t f.1) (firsts_of g)) (option_map first_of (find (λ y. t y.1.enctype) ys))
+first_from_group t g [] = grind arith
+first_from_group t g (y ∷ ys) = first_from_group t (with_entry g y) ys ∙ by (list_any (λ f. f.1 == y.1.enctype) fs) (t y.1.enctype) refl refl
+  where
+    fs : List (ℕ × ℕ)
+    fs = firsts_of g
+
+    q : ℕ × ℕ → Bool
+    q = λ f. t f.1
+
+    rest : Option PlacedEntry
+    rest = find (λ y. t y.1.enctype) ys
+
+    by : (any new : Bool) → list_any (λ f. f.1 == y.1.enctype) fs ≡ any → t y.1.enctype ≡ new
+        → option_or (find q (fs ++ cond (not (list_any (λ f. f.1 == y.1.enctype) fs)) (first_of y ∷ []) [])) (option_map first_of rest) ≡ option_or (find q fs) (option_map first_of (cond (t y.1.enctype) (Some y) rest))
+    by true true e f = grind (arith, e, f, append-nil fs, any_found t y.1.enctype fs, or_found (find q fs))
+    by true false e f = grind (arith, e, f, append-nil fs)
+    by false b e f = grind (arith, e, f, find-append q fs (first_of y ∷ []))
+
+-- the first entry of each kind of enctype is among the first ones of each enctype
+pub group_first : (t : ℕ → Bool) (ys : List PlacedEntry) → find (λ f. t f.1) (firsts_of (fold with_entry None ys)) ≡ option_map first_of (find (λ y. t y.1.enctype) ys)
+group_first t ys = first_from_group t None ys
+
+-- ---- enctypes, one after the other
+
+pub one_more_etype : (m n : ℕ) (found seen : List ℕ) (xs : List PlacedEntry) (p etype : ℕ) → m ≡ suc n → seen ≡ found → option_map first_of (find (λ x. is_new seen x.1.enctype) xs) ≡ Some (p, etype) → etypes_from n (found ++ etype ∷ []) xs ≡ etypes_from m found xs
+unfolding etypes_from
+one_more_etype m n found seen xs p etype m_is same is =
+    sym (by (find (λ x. is_new found x.1.enctype) xs) (ap (λ (l : List ℕ). option_map first_of (find (λ x. is_new l x.1.enctype) xs)) (sym same) ∙ is)) ∙ ap (λ (k : ℕ). etypes_from k found xs) (sym m_is)
+  where
+    by : (o : Option PlacedEntry) → option_map first_of o ≡ Some (p, etype) → option_map_or (λ x. etypes_from n (found ++ x.1.enctype ∷ []) xs) o found ≡ etypes_from n (found ++ etype ∷ []) xs
+    by None e = absurd cc
+    by (Some x) e = grind (arith, e)
+
+pub no_more_etypes : (n : ℕ) (found seen : List ℕ) (xs : List PlacedEntry) → seen ≡ found → option_map first_of (find (λ x. is_new seen x.1.enctype) xs) ≡ None → etypes_from n found xs ≡ found
+unfolding etypes_from
+no_more_etypes zero found seen xs same is = refl
+no_more_etypes (suc n) found seen xs same is = by (find (λ x. is_new found x.1.enctype) xs) (ap (λ (l : List ℕ). option_map first_of (find (λ x. is_new l x.1.enctype) xs)) (sym same) ∙ is)
+  where
+    by : (o : Option PlacedEntry) → option_map first_of o ≡ None → option_map_or (λ x. etypes_from n (found ++ x.1.enctype ∷ []) xs) o found ≡ found
+    by None e = refl
+    by (Some x) e = absurd cc
+
+pub no_turns : (n : ℕ) (found : List ℕ) (xs : List PlacedEntry) → n ≡ zero → etypes_from n found xs ≡ found
+unfolding etypes_from
+no_turns n found xs is = ap (λ (k : ℕ). etypes_from k found xs) is

@@ -1,0 +1,10 @@
+pub mod Cited
+pub mod Noting
+pub mod Numbering
+pub mod Places
+pub mod Finding
+pub mod Found
+pub mod Judging
+pub mod LawLemmas
+pub mod OnLiterals
+mod Samples
