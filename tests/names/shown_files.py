@@ -72,7 +72,7 @@ CACHES = {
                    "ended now|-|aes128|-128|krbtgt/R@R",
                    "in 2 h|in 1 s|aes128|-|krbtgt/R@R", "starts in 2 min|now|1!|-|krbtgt/R@R",
                    "starts in 1 s|53 y ago|77|-|h/a@R", widths=(15, 8, 7, 13)),
-    # A ticket's own name stands for a server without a realm alone.
+    # A ticket's own name is shown for a server without a realm alone.
     ("4 tickets", (ends(ticket=OWN), ends(ticket=OWN, server=Name((b"h",), b"")), ends(server=Name((b"h",), b"")),
                    ends(ticket=OWN[:-1], server=Name((), b"")))): of_tickets(
         "-|-|aes128|aes256|krbtgt/R@R", "-|-|aes128|aes256|h/b@S", "-|-|aes128|-|h@", "-|-|aes128|-|@",

@@ -294,7 +294,7 @@ hold_end (Fails file why) = Err (file, why)
 hold_end (Displays file page) = result_map_err (λ why. (file, why)) (result_map (λ verdict. Left) page.ending)
 hold_end (Saves file bytes out verdict) = Ok Saved
 
--- a run of hold that comes to that with a file
+-- a run of hold with that effect on a file
 abbrev exchanges : Bool → FileMap → List ℕ → Effect → Seen
 exchanges explains files file effect =
     let end = hold_end effect in
