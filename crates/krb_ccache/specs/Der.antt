@@ -56,6 +56,10 @@ strings_within (suc n) bytes =
       others ← strings_within n first.1
       Some (first.0 ∷ others))
 
+-- those strings, or none if the bytes are not at most n
+abbrev pub strings_left : ℕ → List ℕ → List (List ℕ)
+strings_left n bytes = unwrap_or (strings_within n bytes) []
+
 -- the strings that the bytes are: each takes a byte, so there are no more strings than bytes
 unfoldable pub strings_in : List ℕ → Option (List (List ℕ))
 strings_in bytes = strings_within (length bytes) bytes
@@ -88,9 +92,3 @@ integer_at tag bytes = do
 abbrev pub signed : Bool × ℕ → ℤ
 signed (true, n) = negsuc n
 signed (false, n) = pos n
-
--- ---- for private contracts
-
--- those strings, if the bytes are strings
-abbrev pub strings_left : ℕ → List ℕ → List (List ℕ)
-strings_left n bytes = unwrap_or (strings_within n bytes) []

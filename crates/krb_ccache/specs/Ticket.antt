@@ -40,9 +40,11 @@ abbrev pub is_five : ℤ → Bool
 is_five (pos n) = n == 5
 is_five (negsuc n) = false
 
--- the fields of Ticket: tkt-vno [0], realm [1], sname [2], and enc-part [3]; of realm and sname the content
-unfoldable pub ticket_fields : List ℕ → Option (List ℕ × List ℕ × TicketEncryption)
-ticket_fields fields = do
+-- the fields of a ticket, [APPLICATION 1]: tkt-vno [0], realm [1], sname [2], and enc-part [3]; of realm and sname the content
+unfoldable pub ticket_in : List ℕ → Option (List ℕ × List ℕ × TicketEncryption)
+ticket_in bytes = do
+  ticket ← element_in 0x61 bytes
+  fields ← element_in 0x30 ticket
   version ← integer_at 0xa0 fields
   realm ← if is_five version.0 then element_at 0xa1 version.1 else None
   sname ← element_at 0xa2 realm.1
@@ -50,13 +52,6 @@ ticket_fields fields = do
   encrypted ← element_in 0x30 enc_part
   encryption ← encrypted_data encrypted
   Some (realm.0, sname.0, encryption)
-
--- those of a ticket, [APPLICATION 1]
-unfoldable pub ticket_in : List ℕ → Option (List ℕ × List ℕ × TicketEncryption)
-ticket_in bytes = do
-  ticket ← element_in 0x61 bytes
-  fields ← element_in 0x30 ticket
-  ticket_fields fields
 
 -- the encryption of a ticket, whatever realm and sname are
 unfoldable pub ticket_encryption : List ℕ → Option TicketEncryption
@@ -81,8 +76,6 @@ unfoldable pub ticket_server : List ℕ → Option Parts
 ticket_server bytes = do
   ticket ← ticket_in bytes
   server_in ticket.0 ticket.1
-
--- ---- for private contracts
 
 -- the parts of a name that is borrowed from a ticket
 abbrev pub server_parts : TicketServer → Parts

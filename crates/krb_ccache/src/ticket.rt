@@ -2,9 +2,9 @@
 //! 0x1b, GeneralString, and for a field [0] 0xa0 and so on.
 
 ghost use Rattle.std.specs.Prelude.{◌≡◌, IfOk};
-ghost use Rattle.krb_wire.specs.Reading.{Gives, items_of, principal_parts};
+ghost use Rattle.krb_wire.specs.Reading.{Gives, principal_parts};
 ghost use Rattle.krb_ccache.specs.Der.{signed};
-ghost use Rattle.krb_ccache.specs.Ticket.{int32_of, kvno_of, kvno_at, encrypted_data, ticket_fields, ticket_in, ticket_encryption, server_in, ticket_server, server_parts};
+ghost use Rattle.krb_ccache.specs.Ticket.{int32_of, kvno_of, kvno_at, encrypted_data, ticket_in, ticket_encryption, server_in, ticket_server, server_parts};
 
 use crate::der::{Integer, Strings, read_element, read_strings, split_element, split_integer};
 use krb_wire::{NoMemory, Principal};
@@ -89,30 +89,20 @@ fn encrypted_data(fields: &[u8]) -> Option<TicketEncryption>
     Some(TicketEncryption { etype, kvno })
 }
 
-// The contents of realm and sname, and the encryption.
-type Fields<'a> = (&'a [u8], &'a [u8], TicketEncryption);
-
-#[tactic(auto, unfolding(crate::specs::Ticket::ticket_fields))]
-fn ticket_fields(fields: &[u8]) -> Option<Fields<'_>>
-    ensures { Gives (λ x. (x.0.now, x.1.now, x.2)) result (ticket_fields fields.now) }
+// Returns the contents of realm and sname, and the encryption.
+#[tactic(auto, unfolding(crate::specs::Ticket::ticket_in))]
+fn read_ticket(ticket: &[u8]) -> Option<(&[u8], &[u8], TicketEncryption)>
+    ensures { Gives (λ x. (x.0.now, x.1.now, x.2)) result (ticket_in ticket.now) }
 {
+    let fields = read_element(0x30, read_element(0x61, ticket)?)?;
     let (version, rest) = split_integer(0xa0, fields)?;
     if version != (false, 5) {
         return None;
     }
     let (realm, rest) = split_element(0xa1, rest)?;
     let (sname, rest) = split_element(0xa2, rest)?;
-    let enc_part = read_element(0xa3, rest)?;
-    let encryption = encrypted_data(read_element(0x30, enc_part)?)?;
-    Some((realm, sname, encryption))
-}
-
-#[tactic(auto, unfolding(crate::specs::Ticket::ticket_in))]
-fn read_ticket(ticket: &[u8]) -> Option<Fields<'_>>
-    ensures { Gives (λ x. (x.0.now, x.1.now, x.2)) result (ticket_in ticket.now) }
-{
-    let fields = read_element(0x30, read_element(0x61, ticket)?)?;
-    ticket_fields(fields)
+    let encrypted = read_element(0x30, read_element(0xa3, rest)?)?;
+    Some((realm, sname, encrypted_data(encrypted)?))
 }
 
 /// Returns how a ticket is encrypted (RFC 4120 5.3), or `None` if the bytes are not one in DER.

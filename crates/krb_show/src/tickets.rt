@@ -56,12 +56,9 @@ fn append_service<A: Allocator + Copy>(
 ) -> Result<(), NoMemory>
     ensures { OnOk result (out.new.items ≡ out.old.items ++ name_text (service ticket.now)) }
 {
-    if !ticket.server().realm().is_empty() {
-        return write_name(ticket.server(), out);
-    }
     match ticket_server(ticket.ticket()) {
-        Some(server) => write_name(&server.copy(alloc)?, out),
-        None => write_name(ticket.server(), out),
+        Some(own) if ticket.server().realm().is_empty() => write_name(&own.copy(alloc)?, out),
+        _ => write_name(ticket.server(), out),
     }
 }
 
