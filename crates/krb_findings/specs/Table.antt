@@ -1,7 +1,7 @@
 -- The table of findings, and sets of them.
 use Rattle.std.specs.Prelude.{ℕ, ◌^◌, ◌-◌, bit_and, bit_or, List, [], ◌∷◌, codes, Bool, true, false, not, ◌==◌, if◌then◌else◌, fold}
 use Rattle.krb_findings.specs.declared.finding.Finding.{Finding}
-use Rattle.krb_findings.specs.declared.finding.Finding.TheVariants.{Weak, Hidden, Same, Clash, Old, Mode, Size, Aged, Missing, Empty}
+use Rattle.krb_findings.specs.declared.finding.Finding.TheVariants.{Weak, Hidden, Same, Clash, Old, Mode, Size, Aged, Missing, Empty, User, Unread, Name, Kvno, Etype}
 use Rattle.krb_findings.specs.declared.finding_set.FindingSet.{FindingSet}
 
 -- what is said of a finding: the word that its line begins with, its phrase, and whether it makes the status 1
@@ -22,10 +22,19 @@ row_of Size = record { word = codes "size"; phrase = codes "a key that is not as
 row_of Aged = record { word = codes "aged"; phrase = codes "a key that is older than was asked"; counts = true }
 row_of Missing = record { word = codes "missing"; phrase = codes "no entry of a name that was asked for"; counts = true }
 row_of Empty = record { word = codes "empty"; phrase = codes "a keytab without an entry"; counts = true }
+row_of User = record { word = codes "user"; phrase = codes "no keytab opens this ticket"; counts = false }
+row_of Unread = record { word = codes "unread"; phrase = codes "the ticket is not in Kerberos' form"; counts = true }
+row_of Name = record { word = codes "name"; phrase = codes "the keytab has no entry of this name"; counts = true }
+row_of Kvno = record { word = codes "kvno"; phrase = codes "the keytab has other versions of this name"; counts = true }
+row_of Etype = record { word = codes "etype"; phrase = codes "the keytab has no key of this type in that version"; counts = true }
 
--- the findings, in the order in which words explain them
+-- the findings of a check, in the order in which words explain them
 abbrev pub all_findings : List Finding
 all_findings = Weak ∷ Hidden ∷ Same ∷ Clash ∷ Old ∷ Mode ∷ Size ∷ Aged ∷ Missing ∷ Empty ∷ []
+
+-- what is said of tickets, in that order
+abbrev pub findings_about_tickets : List Finding
+findings_about_tickets = User ∷ Unread ∷ Name ∷ Kvno ∷ Etype ∷ []
 
 -- those about an entry, in the order of its lines
 abbrev pub findings_about_entries : List Finding
@@ -45,6 +54,11 @@ bit_of Size = 2 ^ 6
 bit_of Aged = 2 ^ 7
 bit_of Missing = 2 ^ 8
 bit_of Empty = 2 ^ 9
+bit_of User = 2 ^ 10
+bit_of Unread = 2 ^ 11
+bit_of Name = 2 ^ 12
+bit_of Kvno = 2 ^ 13
+bit_of Etype = 2 ^ 14
 
 -- no findings
 abbrev pub none : FindingSet

@@ -1,11 +1,12 @@
-//! What a check of a keytab can find: one table, which lines, words, JSON and `--allow` read.
+//! What a check of a keytab can find, and what a keytab says of a ticket that it does not open: one table, which lines,
+//! words, JSON and `--allow` read.
 
 ghost use Rattle.std.specs.Prelude.{◌≡◌};
 ghost use Rattle.std.specs.List.{find};
 ghost use Rattle.std.specs.Str.{bytes_eq};
 ghost use Rattle.krb_findings.specs.Table.{all_findings, bit_of, row_of};
 
-/// What a check of a keytab can find.
+/// What a check of a keytab can find, and after that what a keytab can say of a ticket that it does not open.
 #[derive(Clone, Copy, Debug, PartialEq, Eq)]
 pub enum Finding {
     Weak,
@@ -18,9 +19,14 @@ pub enum Finding {
     Aged,
     Missing,
     Empty,
+    User,
+    Unread,
+    Name,
+    Kvno,
+    Etype,
 }
 
-/// The findings, in the order in which words explain them.
+/// The findings of a check, in the order in which words explain them.
 pub const FINDINGS: [Finding; 10] = [
     Finding::Weak,
     Finding::Hidden,
@@ -32,6 +38,15 @@ pub const FINDINGS: [Finding; 10] = [
     Finding::Aged,
     Finding::Missing,
     Finding::Empty,
+];
+
+/// What is said of tickets, in the order in which words explain it.
+pub const ABOUT_TICKETS: [Finding; 5] = [
+    Finding::User,
+    Finding::Unread,
+    Finding::Name,
+    Finding::Kvno,
+    Finding::Etype,
 ];
 
 /// The findings about an entry, in the order of its lines.
@@ -97,10 +112,19 @@ impl Finding {
             Finding::Aged => row("aged", "a key that is older than was asked", true),
             Finding::Missing => row("missing", "no entry of a name that was asked for", true),
             Finding::Empty => row("empty", "a keytab without an entry", true),
+            Finding::User => row("user", "no keytab opens this ticket", false),
+            Finding::Unread => row("unread", "the ticket is not in Kerberos' form", true),
+            Finding::Name => row("name", "the keytab has no entry of this name", true),
+            Finding::Kvno => row("kvno", "the keytab has other versions of this name", true),
+            Finding::Etype => row(
+                "etype",
+                "the keytab has no key of this type in that version",
+                true,
+            ),
         }
     }
 
-    /// Returns the finding whose lines begin with a word.
+    /// Returns the finding of a check whose lines begin with a word.
     pub fn named(word: &str) -> Option<Finding>
         ensures { result ≡ find (λ finding. bytes_eq (row_of finding).word word.now) all_findings }
     {
