@@ -42,17 +42,16 @@ pub fn is_named_if_it_matters<A: Allocator, B: Allocator>(
     names.passes(entry.principal())
 }
 
-// Returns whether a server's first component is not `krbtgt`. True if it has none.
-fn is_service(server: &PrincipalView<'_>) -> bool
-    ensures { result ≡ is_service server.now }
+/// Returns whether a name's first component is not `krbtgt`. True if it has none.
+pub fn is_service<N: Name>(name: &N) -> bool
+    ensures { result ≡ is_service (N.parts name.now) }
 {
-    server
-        .component(0)
+    name.component(0)
         .is_none_or(|first| first != b"krbtgt".as_slice())
 }
 
-// Returns whether a server has the realm under which gssproxy keeps a user's credentials.
-fn is_of_gssproxy(server: &PrincipalView<'_>) -> bool
+/// Returns whether a server has the realm under which gssproxy keeps a user's credentials.
+pub fn is_of_gssproxy(server: &PrincipalView<'_>) -> bool
     ensures { result ≡ is_of_gssproxy server.now }
 {
     server.realm() == b"X-GSSPROXY:".as_slice()

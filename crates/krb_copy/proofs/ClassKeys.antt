@@ -46,7 +46,7 @@ by_emptiness p q (a ∷ as') (b ∷ bs) ep eq n e =
 -- ---- comparisons
 
 -- both or neither have no components, and the texts are equal, iff the names are the same
-names_agree : (p q : Parts) → (emptiness p == emptiness q && bytes_eq (name_text p) (name_text q)) ≡ have_same_name p q
+pub names_agree : (p q : Parts) → (emptiness p == emptiness q && bytes_eq (name_text p) (name_text q)) ≡ have_same_name p q
 names_agree p q = same_name_is p q (emptiness p == emptiness q && bytes_eq (name_text p) (name_text q))
     (λ e. let both = and_both (emptiness p == emptiness q) (bytes_eq (name_text p) (name_text q)) e in
     by_emptiness p q p.components q.components refl refl (eqb-true _ _ both.0) ((bytes_eq-Decides (name_text p) (name_text q)).0 both.1))

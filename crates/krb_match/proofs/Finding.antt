@@ -1,0 +1,31 @@
+-- The first of entries that pass a test.
+use Rattle.krb_match.proofs.Cited.{◌≡◌, ◌∙◌, ap, refl, arith, ◌<◌, Bool, List, [], ◌∷◌, ◌||◌, ◌&&◌, Some, option_map, filter, find, is_some, list_any, AllByRecursion, PlacedEntry, Rises, earlier, first_of}
+use Rattle.std.proofs.lemmas.Bool.{le-ltb, lt-ltb}
+
+-- of those that pass another test
+pub find_filter : {X : Type 0} (t q : X → Bool) (xs : List X) → find q (filter t xs) ≡ find (λ x. t x && q x) xs
+find_filter t q [] = refl
+find_filter t q (x ∷ xs) = grind (arith, find_filter t q xs)
+
+-- one is found iff one passes
+pub some_found : {X : Type 0} (t : X → Bool) (xs : List X) → is_some (find t xs) ≡ list_any t xs
+some_found t [] = refl
+some_found t (x ∷ xs) = grind (arith, some_found t xs)
+
+-- ---- of two tests
+
+before_found : (x : PlacedEntry) (t : PlacedEntry → Bool) (xs : List PlacedEntry) → AllByRecursion (λ y. x.0 < y.0) xs → earlier (Some (first_of x)) (option_map first_of (find t xs)) ≡ Some (first_of x)
+before_found x t [] h = refl
+before_found x t (y ∷ ys) h = grind (arith, before_found x t ys h.1, le-ltb y.0 x.0 (omega (arith, h.0)))
+
+found_before : (x : PlacedEntry) (t : PlacedEntry → Bool) (xs : List PlacedEntry) → AllByRecursion (λ y. x.0 < y.0) xs → earlier (option_map first_of (find t xs)) (Some (first_of x)) ≡ Some (first_of x)
+found_before x t [] h = refl
+found_before x t (y ∷ ys) h = grind (arith, found_before x t ys h.1, lt-ltb x.0 y.0 h.0)
+
+-- the first that passes one of two tests is the earlier of the first ones of each
+pub find_either : (t q : PlacedEntry → Bool) (xs : List PlacedEntry) → Rises xs → earlier (option_map first_of (find t xs)) (option_map first_of (find q xs)) ≡ option_map first_of (find (λ x. t x || q x) xs)
+find_either t q [] h = refl
+find_either t q (x ∷ xs) h = grind (arith, find_either t q xs h.1, before_found x q xs h.0, found_before x t xs h.0, le-ltb x.0 x.0 (omega arith))
+
+pub find_three : (t q r : PlacedEntry → Bool) (xs : List PlacedEntry) → Rises xs → earlier (option_map first_of (find t xs)) (earlier (option_map first_of (find q xs)) (option_map first_of (find r xs))) ≡ option_map first_of (find (λ x. t x || (q x || r x)) xs)
+find_three t q r xs h = ap (earlier (option_map first_of (find t xs))) (find_either q r xs h) ∙ find_either t (λ x. q x || r x) xs h

@@ -1,0 +1,12 @@
+pub mod Cited
+pub mod Noting
+pub mod Numbering
+pub mod Places
+pub mod Finding
+pub mod Found
+pub mod Judging
+pub mod LawLemmas
+pub mod Adding
+pub mod Positions
+pub mod OnLiterals
+mod Samples

@@ -1,0 +1,24 @@
+-- The numbers of names: their places in a set.
+use Rattle.krb_match.proofs.Cited.{◌≡◌, ◌∙◌, sym, refl, arith, ℕ, Bool, true, false, List, [], ◌∷◌, ◌++◌, map, filter, list_any, bytes_eq, Parts, PlacedEntry, same_equiv, HaveSameNames, entry_key, has_name, is_among, name_key}
+use Rattle.krb_copy.proofs.ClassKeys.{names_agree}
+
+any_key : (p : Parts) (xs : List PlacedEntry) → list_any (bytes_eq (name_key p)) (map entry_key xs) ≡ has_name p xs
+any_key p [] = refl
+any_key p (x ∷ xs) = grind (arith, names_agree p x.1.principal, any_key p xs)
+
+-- a name is in the set iff an entry has it
+pub among_is : (xs : List PlacedEntry) (names : List (List ℕ)) → HaveSameNames (map entry_key xs) names → (p : Parts) → is_among names (name_key p) ≡ has_name p xs
+among_is xs names same p = sym (same (name_key p)) ∙ any_key p xs
+
+pub none_named : {X : Type 0} (t : X → Bool) (xs : List X) → list_any t xs ≡ false → filter t xs ≡ []
+none_named t [] e = refl
+none_named t (x ∷ xs) e = grind (arith, e, none_named t xs)
+
+pub some_named : {X : Type 0} (t : X → Bool) (xs : List X) → list_any t xs ≡ true → filter t xs ≡ [] → ⊥
+some_named t [] e none = absurd cc
+some_named t (x ∷ xs) e none = grind (arith, e, none, some_named t xs)
+
+-- an entry among others has its name
+pub named_here : (before rest : List PlacedEntry) (x : PlacedEntry) → has_name x.1.principal (before ++ x ∷ rest) ≡ true
+named_here [] rest x = grind (arith, same_equiv.refl x.1.principal)
+named_here (y ∷ ys) rest x = grind (arith, named_here ys rest x)
