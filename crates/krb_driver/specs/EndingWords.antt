@@ -18,7 +18,7 @@ use Rattle.krb_text.specs.Escape.{escaped_text}
 use Rattle.krb_text.specs.declared.line_fault.LineFault.{LineFault}
 use Rattle.krb_text.specs.declared.line_fault.LineFault.TheVariants.{UnknownWord}
 use Rattle.krb_text.specs.LineFault.{line_phrase, ktutil_phrase}
-use Rattle.krb_findings.specs.Table.{all_findings, has, row_of}
+use Rattle.krb_findings.specs.Table.{all_findings, findings_about_tickets, has, row_of}
 use Rattle.krb_findings.specs.declared.finding.Finding.{Finding}
 use Rattle.krb_findings.specs.declared.finding_set.FindingSet.{FindingSet}
 use Rattle.krb_driver.specs.declared.error.RunError.{RunError}
@@ -32,8 +32,10 @@ use Rattle.krb_driver.specs.declared.reporting.reported.Failure.{Failure}
 use Rattle.krb_driver.specs.declared.reporting.reported.Failure.TheVariants.{Refused, Faulted}
 use Rattle.krb_driver.specs.declared.reporting.reported.Reported.{Reported}
 use Rattle.krb_driver.specs.declared.verdict.Findings.{Findings}
+use Rattle.krb_driver.specs.declared.verdict.TicketsSought.{TicketsSought}
+use Rattle.krb_driver.specs.declared.verdict.TicketsSought.TheVariants.{Asked, OfServices}
 use Rattle.krb_driver.specs.declared.verdict.Verdict.{Verdict}
-use Rattle.krb_driver.specs.declared.verdict.Verdict.TheVariants.{HiddenFrom, NoEntry, Listed, Replied, Found, NothingToRemove, Clashed}
+use Rattle.krb_driver.specs.declared.verdict.Verdict.TheVariants.{HiddenFrom, NoEntry, Listed, Replied, Found, Judged, NothingToRemove, Clashed}
 use Rattle.krb_driver.specs.declared.first_word.FirstWord.{FirstWord}
 use Rattle.krb_driver.specs.declared.beginning.Beginning.{Beginning}
 use Rattle.krb_driver.specs.declared.beginning.Beginning.TheVariants as begins
@@ -106,6 +108,16 @@ show_phrase fault other = cc_phrase fault
 abbrev pub hold_phrase : CcOpenFault → Beginning → List ℕ
 hold_phrase cc.BadVersion begins.Keytab = codes "a keytab (hold it with -k), or a cache of version 1 or 2 (not read)"
 hold_phrase fault other = no_cache_phrase fault other
+
+-- why a file whose tickets are matched is no cache, by what it begins as
+abbrev pub match_phrase : CcOpenFault → Beginning → List ℕ
+match_phrase cc.BadVersion begins.Keytab = codes "a keytab (KEYTAB comes first), or a cache of version 1 or 2 (not read)"
+match_phrase fault other = no_cache_phrase fault other
+
+-- why no ticket was looked at
+abbrev pub no_ticket_phrase : TicketsSought → List ℕ
+no_ticket_phrase Asked = codes "no ticket has what was asked for"
+no_ticket_phrase OfServices = codes "no ticket of a service"
 
 -- what is wrong with a line of a script, or of ktutil if a line number is given
 abbrev pub line_fault_phrase : Option ℕ → LineFault → List ℕ
@@ -231,10 +243,13 @@ error_words file line details (error.NotAKeytab why) = phrase_line line (no_keyt
 error_words file line details (error.NotAKeytabToList why) = phrase_line line (list_phrase why.fault why.begins)
 error_words file line details (error.NotACache why) = phrase_line line (no_cache_phrase why.fault why.begins)
 error_words file line details (error.NotACacheToHold why) = phrase_line line (hold_phrase why.fault why.begins)
+error_words file line details (error.NotACacheToMatch why) = phrase_line line (match_phrase why.fault why.begins)
 error_words file line details (error.NeitherToShow why) = phrase_line line (show_phrase why.fault why.begins)
 error_words file line details (error.Refused kind code) = phrase_line line (refusal_phrase kind code)
 error_words file line details error.NothingToCopy = phrase_line line (nothing_phrase Keytab)
 error_words file line details (error.NothingSelected kind) = phrase_line line (nothing_phrase kind)
+error_words file line details (error.NoTicketIn sought) = phrase_line line (no_ticket_phrase sought)
+error_words file line details (error.NoTickets sought) = phrase_line line (no_ticket_phrase sought)
 error_words file line details error.OutputNotWritten = cause_words file line details
 error_words file line details error.OutputIsTerminal = phrase_line line (codes "the image is for a program; give it a pipe")
 error_words file line details error.ClockNotRead = phrase_line line (codes "the clock is before 1970 or after 2106, or failed")
@@ -254,10 +269,11 @@ verdict_words file line (Clashed replaces) = phrase_line line (codes "clash: TO 
 verdict_words file line (Listed fault) = listed_words file fault
 verdict_words file line verdict = []
 
--- the words for what replies report, or for findings
+-- the words for what replies report, for findings, or for lines of tickets
 abbrev pub itemized_words : List ℕ → Verdict → List ℕ
 itemized_words file (Replied reported) = reported_words file reported
 itemized_words file (Found findings) = found_words file findings
+itemized_words file (Judged judged) = flat_map (word_line judged.words) findings_about_tickets
 itemized_words file verdict = []
 
 -- the words that explain the end of a run

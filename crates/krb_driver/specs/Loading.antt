@@ -14,7 +14,7 @@ use Rattle.krb_driver.specs.declared.loading.NoKeytab.{NoKeytab}
 use Rattle.krb_driver.specs.declared.loading.NotCache.{NotCache}
 use Rattle.krb_driver.specs.declared.loading.NoKeytab.TheVariants.{Load, Open}
 use Rattle.krb_driver.specs.declared.error.RunError.{RunError}
-use Rattle.krb_driver.specs.declared.error.RunError.TheVariants.{NotACache, Refused}
+use Rattle.krb_driver.specs.declared.error.RunError.TheVariants.{NotACache, NotACacheToMatch, Refused}
 use Rattle.krb_driver.specs.Beginnings.{begins_as}
 use Rattle.krb_driver.specs.RunErrors.{load_error, list_error, no_keytab_error}
 use Rattle.krb_walk.specs.Store.{fault_of}
@@ -69,6 +69,11 @@ keytab_or_fresh order in_place answer = keytab_or_new order in_place answer
 abbrev pub cache_of : Result (List ℕ) LoadFault → Result CacheState RunError
 cache_of (Ok image) = result_map_err (λ fault. NotACache (not_cache image fault)) (cache_result most_bytes image)
 cache_of (Err fault) = Err (load_error fault)
+
+-- the cache of a file whose tickets are to be matched, or why there is none
+abbrev pub matched_in : Result (List ℕ) LoadFault → Result CacheState RunError
+matched_in (Ok image) = result_map_err (λ fault. NotACacheToMatch (not_cache image fault)) (cache_result most_bytes image)
+matched_in (Err fault) = Err (load_error fault)
 
 -- ---- what files answer
 

@@ -5,7 +5,7 @@ use Rattle.krb_walk.specs.declared.refusal.Code.{Code}
 use Rattle.krb_walk.specs.declared.refusal.Code.TheVariants.{NotFound, Damaged}
 use Rattle.krb_walk.specs.Phrases.{code_number}
 use Rattle.krb_driver.specs.declared.verdict.Verdict.{Verdict}
-use Rattle.krb_driver.specs.declared.verdict.Verdict.TheVariants.{Well, HiddenFrom, NoEntry, Without, Listed, Replied, Found, NothingToRemove}
+use Rattle.krb_driver.specs.declared.verdict.Verdict.TheVariants.{Well, HiddenFrom, NoEntry, Without, Listed, Replied, Found, Judged, NothingToRemove}
 use Rattle.krb_driver.specs.Messages.{numbered, message, file_message, line_message}
 use Rattle.krb_keytab.specs.Open.{open_fault_number}
 use Rattle.krb_ccache.specs.Open.{open_fault_number as cache_fault_number}
@@ -58,6 +58,7 @@ verdict_status (HiddenFrom place) = 0
 verdict_status NoEntry = 0
 verdict_status Without = 0
 verdict_status (Found findings) = if findings.is_wrong then 1 else 0
+verdict_status (Judged judged) = if judged.is_wrong then 1 else 0
 verdict_status verdict = 1
 
 -- ---- where an error that ends a run comes from
@@ -130,9 +131,11 @@ said_of_file (error.NotAKeytab why) = numbered (codes "not a keytab (") (open_fa
 said_of_file (error.NotAKeytabToList why) = numbered (codes "not a keytab (") (open_fault_number why.fault) (codes ")")
 said_of_file (error.NotACache why) = numbered (codes "not a cache (") (cache_fault_number why.fault) (codes ")")
 said_of_file (error.NotACacheToHold why) = numbered (codes "not a cache (") (cache_fault_number why.fault) (codes ")")
+said_of_file (error.NotACacheToMatch why) = numbered (codes "not a cache (") (cache_fault_number why.fault) (codes ")")
 said_of_file (error.NeitherToShow why) = numbered (codes "not a cache (") (cache_fault_number why.fault) (codes ")")
 said_of_file (error.Refused kind code) = refused code
 said_of_file error.NothingToCopy = refused NotFound
+said_of_file (error.NoTicketIn sought) = refused NotFound
 said_of_file other = []
 
 -- the message for an error of a run over that file
@@ -146,6 +149,7 @@ error_message file (error.FromPassword line) = line_message line (codes "fault "
 error_message file (error.AsksForHelp line) = line_message line (codes "fault ") (line_fault_number UnknownWord)
 error_message file (error.LineRefused line code) = line_message line (codes "refused ") (code_number code)
 error_message file (error.NothingSelected kind) = message (codes "refused 9")
+error_message file (error.NoTickets sought) = message (codes "refused 9")
 error_message file error.OutputNotWritten = message (codes "cannot write output")
 error_message file error.OutputIsTerminal = message (codes "cannot write output")
 error_message file error.ClockNotRead = message (codes "cannot read the clock")

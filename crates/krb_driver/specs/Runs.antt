@@ -1,11 +1,12 @@
 -- What a run of the program prints and reports, and its exit status.
-use Rattle.std.specs.Prelude.{Bool, ℕ, List, [], ◌++◌, true, false, ◌||◌, Option, None, Some, ◌≡◌, IsTrue, IsFalse, Err}
+use Rattle.std.specs.Prelude.{Bool, ℕ, List, [], ◌++◌, codes, true, false, ◌||◌, Option, None, Some, ◌≡◌, IsTrue, IsFalse, Err}
 use Rattle.krb_files.specs.Bytes.{Watch, AppendsPrefix}
 use Rattle.krb_files.specs.declared.aftermath.Aftermath.{Aftermath}
 use Rattle.krb_files.specs.declared.aftermath.Aftermath.TheVariants.{Restored}
 use Rattle.krb_files.specs.Phrases.{aftermath_phrase}
 use Rattle.krb_driver.specs.declared.reporting.details.Details.{Details}
-use Rattle.krb_driver.specs.EndingWords.{ending_words}
+use Rattle.krb_driver.specs.EndingWords.{ending_words, found_fault_words}
+use Rattle.krb_walk.specs.declared.fault.Fault.{Fault}
 use Rattle.krb_driver.specs.Messages.{file_message, phrase_line}
 use Rattle.krb_driver.specs.RunErrors.{Ending, ending_message, end_status}
 use Rattle.std.specs.Io.KnownBytes.{Appends}
@@ -74,6 +75,16 @@ pub record BreaksOff (due : Run) (out out' : Watch) (ending : Ending) : Type 0 w
 pub record Writes (old new : Watch) (text : List ℕ) : Type 0 where
   pub prefix : AppendsPrefix old.contents new.contents text
   pub whole : IsFalse new.failed → Appends old.contents new.contents text
+
+-- the words for a name that the keytab has, if one is given
+abbrev pub near_words : Option (List ℕ) → List ℕ
+near_words None = []
+near_words (Some name) = codes "krbfile: the keytab has " ++ (name ++ codes "\n")
+
+-- that name, and the fault of a file, were written on an error output that explains
+pub record NamesNear (near : Option (List ℕ)) (file : List ℕ) (fault : Option Fault) (err err' : ErrorWatch) : Type 0 where
+  pub writes : Writes err.to err'.to (words_if err.explains (near_words near ++ found_fault_words file fault))
+  pub still : err'.explains ≡ err.explains
 
 -- a text was written after what was written since some start; or the writer had failed, and nothing was written
 abbrev pub WritesOn : Watch → Watch → List ℕ → Type 0

@@ -9,7 +9,7 @@ ghost use Rattle.krb_driver.specs.RunErrors.{error_of_name, error_status, input_
 use crate::file_name::NameSource;
 use crate::first_word::FirstWord;
 use crate::loading::{NoKeytab, NotCache, NotKeytab};
-use crate::verdict::{FileKind, Verdict};
+use crate::verdict::{FileKind, TicketsSought, Verdict};
 use krb_files::{Aftermath, LoadFault, OutFault, SaveFault};
 use krb_text::{LineFault, ScriptRefusal};
 use krb_walk::{Code, Fault};
@@ -47,6 +47,8 @@ pub enum RunError {
     NotACache(NotCache),
     /// Of a file that was to be held as one.
     NotACacheToHold(NotCache),
+    /// Of a file whose tickets were to be matched.
+    NotACacheToMatch(NotCache),
     /// Of a file to show, which does not begin as a keytab and is no cache.
     NeitherToShow(NotCache),
     /// A file of that kind refused what the run was to do.
@@ -55,6 +57,10 @@ pub enum RunError {
     NothingToCopy,
     /// Nothing is selected in any of several files of that kind.
     NothingSelected(FileKind),
+    /// No ticket of a cache was looked at.
+    NoTicketIn(TicketsSought),
+    /// No ticket of any of several caches was looked at.
+    NoTickets(TicketsSought),
     OutputNotWritten,
     /// The output is a terminal, and an image is not for people.
     OutputIsTerminal,

@@ -30,14 +30,15 @@ pub use loading::{
     NoKeytab, NotCache, NotKeytab, cache_of, keytab_of, load_keytab, load_or_new, read_input,
 };
 pub use opening::{
-    give_cache, give_or_empty, hold, hold_if, open_cache, open_keytab, open_listed, open_whole,
-    open_whole_or_empty, open_writable, other_type, release, try_keytab,
+    give_cache, give_or_empty, give_whole, hold, hold_if, open_cache, open_keytab, open_listed,
+    open_whole, open_whole_or_empty, open_writable, other_type, release, try_keytab, try_matched,
 };
 pub use reporting::details::{Details, details_of};
 pub use reporting::reported::replied_verdict;
 pub use reporting::{
-    ErrorOutput, MessagePiece, append_said, report, report_word_fault, show, write_pieces,
+    ErrorOutput, MessagePiece, append_said, name_near, report, report_word_fault, show,
+    write_pieces,
 };
 pub use several::{OverFiles, Ran, label_of, run_over};
-pub use verdict::{FileKind, Findings, Verdict};
+pub use verdict::{FileKind, Findings, Judged, TicketsSought, Verdict};
 pub use without_files::{end_before, print};

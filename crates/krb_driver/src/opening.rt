@@ -3,14 +3,14 @@
 ghost use Rattle.std.specs.Prelude.{◌≡◌, false, is_some, None, Some};
 ghost use Rattle.krb_driver.specs.declared.error.RunError.TheVariants.{OtherType, Refused};
 ghost use Rattle.krb_driver.specs.Commands.{GivesOf, Opens, Tries, opened, HoldsIf, can_hold};
-ghost use Rattle.krb_driver.specs.Loading.{cache_of, cache_refusal, fresh_in, keytab_in, keytab_or_empty, keytab_refusal, listed_in, result_map, unless_refused, whole_in, whole_or_empty, writable_in};
+ghost use Rattle.krb_driver.specs.Loading.{cache_of, cache_refusal, fresh_in, keytab_in, keytab_or_empty, keytab_refusal, listed_in, matched_in, result_map, unless_refused, whole_in, whole_or_empty, writable_in};
 ghost use Rattle.krb_files.specs.Loading.{TurnsHold};
 ghost use Rattle.krb_files.specs.Plan.{HeldIf};
 
 use crate::command::FileError;
 use crate::error::RunError;
 use crate::file_name::FileName;
-use crate::loading::{load_cache, load_keytab, load_or_fresh, load_or_new};
+use crate::loading::{load_cache, load_keytab, load_matched, load_or_fresh, load_or_new};
 use crate::verdict::FileKind;
 use krb_ccache::{Ccache, Version};
 use krb_files::Files;
@@ -141,6 +141,37 @@ pub fn give_cache<'a, A: Allocator, F: Files>(
     }
 }
 
+// Loads the cache of a file whose tickets are to be matched.
+fn give_matched<'a, A: Allocator, F: Files>(
+    alloc: A,
+    files: &mut F,
+    file: FileName<'a>,
+) -> Result<Ccache<A>, FileError<'a>>
+    ensures { GivesOf F.Files files.old file.entry matched_in (opened (λ k. k.state) result) files.new }
+{
+    if file.is_other_type {
+        return Err(other_type(file));
+    }
+    match load_matched(alloc, files, file.name) {
+        Ok(cache) => Ok(cache),
+        Err(error) => Err(FileError::of(file, error)),
+    }
+}
+
+/// Tries to open the cache of a file whose tickets are to be matched, for a command that goes on with the error too.
+pub fn try_matched<A: Allocator, F: Files>(
+    alloc: A,
+    files: &mut F,
+    file: FileName<'_>,
+) -> Result<Ccache<A>, RunError>
+    ensures { Tries F.Files files.old file.entry matched_in (result_map (λ k. k.state) result) files.new }
+{
+    match give_matched(alloc, files, file) {
+        Ok(cache) => Ok(cache),
+        Err(met) => Err(met.error),
+    }
+}
+
 /// Opens the cache of a file.
 pub fn open_cache<'a, A: Allocator, F: Files>(
     alloc: A,
@@ -169,6 +200,19 @@ fn whole<'a, A: Allocator>(
     }
 }
 
+/// Loads the keytab of a file, which is to have no damage.
+pub fn give_whole<'a, A: Allocator, F: Files>(
+    alloc: A,
+    v1_order: Order,
+    files: &mut F,
+    file: FileName<'a>,
+) -> Result<Keytab<A>, FileError<'a>>
+    ensures { GivesOf F.Files files.old file.entry (whole_in v1_order) (opened (λ k. k.state) result) files.new }
+{
+    let given = give_keytab(alloc, v1_order, files, file);
+    whole(file, given)
+}
+
 /// Opens the keytab of a file to change it. Refuses a damaged one.
 pub fn open_whole<'a, A: Allocator, F: Files>(
     alloc: A,
@@ -178,8 +222,7 @@ pub fn open_whole<'a, A: Allocator, F: Files>(
 ) -> Result<Keytab<A>, FileError<'a>>
     ensures { Opens F.Files files.old file.entry (whole_in v1_order) (opened (λ k. k.state) result) files.new }
 {
-    let given = give_keytab(alloc, v1_order, files, file);
-    whole(file, given)
+    give_whole(alloc, v1_order, files, file)
 }
 
 // Loads the keytab of a file, or returns an empty one of version 2 if the file has no bytes, or is missing and not to be

@@ -7,6 +7,7 @@ mod key_start;
 mod lines;
 mod mistake_words;
 mod name_words;
+mod near_words;
 mod operand;
 mod piece;
 pub(crate) mod reported;
@@ -31,6 +32,7 @@ use krb_files::{Aftermath, Watched, put};
 use krb_text::LineFault;
 use krb_walk::Code;
 pub use mistake_words::report_word_fault;
+pub use near_words::name_near;
 pub use piece::MessagePiece;
 pub use said::append_said;
 use std::io::Write;
@@ -80,7 +82,7 @@ fn error_message(error: RunError, file: &[u8]) -> Line<'_>
             line_message(line, "fault ", LineFault::UnknownWord.number())
         }
         RunError::LineRefused { line, code } => line_message(line, "refused ", code.number()),
-        RunError::NothingSelected(_) => message("refused 9"),
+        RunError::NothingSelected(_) | RunError::NoTickets(_) => message("refused 9"),
         RunError::OutputNotWritten | RunError::OutputIsTerminal => message("cannot write output"),
         RunError::ClockNotRead => message("cannot read the clock"),
         RunError::NoMemory => message("out of memory"),

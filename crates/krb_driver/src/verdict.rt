@@ -28,6 +28,24 @@ pub struct Findings {
     pub v1_order: Order,
 }
 
+/// Which tickets are looked at: those asked for by name, or those of services.
+#[derive(Clone, Copy)]
+pub enum TicketsSought {
+    Asked,
+    OfServices,
+}
+
+/// What a keytab said of a cache's tickets: what is to be explained, the number of the keytab's entry that is named after
+/// that, the fault, whether something is wrong, and whether no ticket was looked at.
+#[derive(Clone, Copy)]
+pub struct Judged {
+    pub words: FindingSet,
+    pub near: Option<usize>,
+    pub fault: Option<Fault>,
+    pub is_wrong: bool,
+    pub is_without: bool,
+}
+
 /// How a run that did its work ends. What it printed may report that something is wrong.
 #[derive(Clone, Copy)]
 pub enum Verdict {
@@ -42,6 +60,8 @@ pub enum Verdict {
     Replied(Reported),
     /// The findings report it.
     Found(Findings),
+    /// The lines of tickets report it. The entry that is named, and the fault, are explained after the end.
+    Judged(Judged),
     /// No entry, or no ticket, is selected.
     NothingToRemove(FileKind),
     /// The same, of one of several files, which is reported at their end.
@@ -86,6 +106,7 @@ impl Verdict {
         match self {
             Verdict::Well | Verdict::HiddenFrom(_) | Verdict::NoEntry | Verdict::Without => 0,
             Verdict::Found(findings) => u8::from(findings.is_wrong),
+            Verdict::Judged(judged) => u8::from(judged.is_wrong),
             _ => 1,
         }
     }

@@ -19,6 +19,7 @@ pub enum Word {
 pub enum CommandName {
     Klist,
     Show,
+    Ktmatch,
     Ktedit,
     Ktfind,
     Ktremove,

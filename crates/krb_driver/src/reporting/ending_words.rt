@@ -2,7 +2,6 @@
 
 ghost use Rattle.std.specs.Prelude.{◌≡◌};
 ghost use Rattle.krb_driver.specs.EndingWords.{ending_words, itemized_words, failure_words, hidden_words_of, reported_words, found_fault_words, found_words, word_line};
-ghost use Rattle.krb_findings.specs.Table.{all_findings};
 ghost use Rattle.krb_driver.specs.Runs.{Adds};
 ghost use Rattle.std.specs.List.{flat_map};
 ghost use Rattle.krb_driver.specs.Messages.{pieces_text};
@@ -19,7 +18,7 @@ use crate::reporting::words::{error_words, listed_words, refusal_phrase, verdict
 use crate::reporting::writing::{Gathered, add_pieces};
 use crate::verdict::{FileKind, Findings, Verdict};
 use krb_files::Watched;
-use krb_findings::{FINDINGS, Finding, FindingSet};
+use krb_findings::{ABOUT_TICKETS, FINDINGS, Finding, FindingSet};
 use krb_walk::Fault;
 use std::io::Write;
 
@@ -30,6 +29,9 @@ fn add_items<E: Write>(verdict: Verdict, file: &[u8], gathered: &mut Gathered, e
     match verdict {
         Verdict::Replied(reported) => add_replies(&reported, file, gathered, err),
         Verdict::Found(findings) => add_findings(&findings, file, gathered, err),
+        Verdict::Judged(judged) => {
+            add_word_lines(&ABOUT_TICKETS, judged.words, gathered, err);
+        },
         _ => return,
     }
 }
@@ -123,16 +125,21 @@ fn word_line(explained: FindingSet, finding: Finding) -> [MessagePiece<'static>;
     ]
 }
 
-fn add_word_lines<E: Write>(explained: FindingSet, gathered: &mut Gathered, err: &mut Watched<E>)
-    ensures { Adds err.old gathered.old.items err.new gathered.new.items (flat_map (word_line explained) all_findings) }
+fn add_word_lines<E: Write>(
+    findings: &[Finding],
+    explained: FindingSet,
+    gathered: &mut Gathered,
+    err: &mut Watched<E>,
+)
+    ensures { Adds err.old gathered.old.items err.new gathered.new.items (flat_map (word_line explained) findings.now) }
 {
-    'findings: for finding in &FINDINGS {
+    'findings: for finding in findings {
         add_pieces(&word_line(explained, *finding), gathered, err);
     }
 }
 
-// Returns the words for the fault that was found, if any.
-fn fault_words(file: &[u8], fault: Option<Fault>) -> Line<'_>
+/// Returns the words for the fault that was found, if any.
+pub fn fault_words(file: &[u8], fault: Option<Fault>) -> Line<'_>
     ensures { pieces_text result ≡ found_fault_words file.now fault }
 {
     match fault {
@@ -150,7 +157,7 @@ pub fn add_findings<E: Write>(
 )
     ensures { Adds err.old gathered.old.items err.new gathered.new.items (found_words file.now findings.now) }
 {
-    add_word_lines(findings.words, gathered, err);
+    add_word_lines(&FINDINGS, findings.words, gathered, err);
     add_pieces(&fault_words(file, findings.fault), gathered, err);
     add_hints(findings, file, gathered, err);
 }

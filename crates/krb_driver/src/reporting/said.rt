@@ -66,11 +66,12 @@ impl Said {
             }
             RunError::NotACache(why)
             | RunError::NotACacheToHold(why)
+            | RunError::NotACacheToMatch(why)
             | RunError::NeitherToShow(why) => {
                 Said::numbered("not a cache (", why.fault.number(), ")")
             }
             RunError::Refused(_, code) => Said::refused(code),
-            RunError::NothingToCopy => Said::refused(Code::NotFound),
+            RunError::NothingToCopy | RunError::NoTicketIn(_) => Said::refused(Code::NotFound),
             _ => Said::alone(""),
         }
     }

@@ -2,7 +2,7 @@
 
 ghost use Rattle.std.specs.Prelude.{◌≡◌, option_map};
 ghost use Rattle.krb_driver.specs.Messages.{phrase_line, words_line, piece_text, pieces_text};
-ghost use Rattle.krb_driver.specs.EndingWords.{cache_phrase, cause_words, error_words, fault_with, hold_phrase, keytab_phrase, line_fault_phrase, list_phrase, listed_words, no_cache_phrase, no_keytab_phrase, nothing_phrase, refusal_phrase, replace_words, show_phrase, unknown_words, verdict_words, way_words};
+ghost use Rattle.krb_driver.specs.EndingWords.{cache_phrase, cause_words, error_words, fault_with, hold_phrase, keytab_phrase, line_fault_phrase, list_phrase, listed_words, match_phrase, no_cache_phrase, no_keytab_phrase, no_ticket_phrase, nothing_phrase, refusal_phrase, replace_words, show_phrase, unknown_words, verdict_words, way_words};
 
 use crate::beginning::Beginning;
 use crate::error::RunError;
@@ -15,7 +15,7 @@ use crate::reporting::name_words::{
 };
 use crate::reporting::piece::MessagePiece::{Escaped, Name, Number, Text};
 use crate::reporting::piece::{COLON, END, HEAD, NONE};
-use crate::verdict::{FileKind, Verdict};
+use crate::verdict::{FileKind, TicketsSought, Verdict};
 use krb_ccache::CcOpenFault;
 use krb_files::Cause;
 use krb_keytab::KtOpenFault;
@@ -132,6 +132,28 @@ fn hold_phrase(why: NotCache) -> &'static str
     }
 }
 
+// Like `no_cache_phrase`, for a file whose tickets are matched.
+fn match_phrase(why: NotCache) -> &'static str
+    ensures { result.now ≡ match_phrase why.fault why.begins }
+{
+    match (why.fault, why.begins) {
+        (CcOpenFault::BadVersion, Beginning::Keytab) => {
+            "a keytab (KEYTAB comes first), or a cache of version 1 or 2 (not read)"
+        }
+        _ => no_cache_phrase(why),
+    }
+}
+
+// Returns why no ticket was looked at.
+fn no_ticket_phrase(sought: TicketsSought) -> &'static str
+    ensures { result.now ≡ no_ticket_phrase sought }
+{
+    match sought {
+        TicketsSought::Asked => nothing_phrase(FileKind::Cache),
+        TicketsSought::OfServices => "no ticket of a service",
+    }
+}
+
 // Returns what is wrong with a line of a script, or of ktutil (if `line` is given).
 fn line_fault_phrase(line: Option<u64>, fault: LineFault) -> &'static str
     ensures { result.now ≡ line_fault_phrase line fault }
@@ -216,6 +238,9 @@ pub fn error_words<'a>(
         RunError::Refused(kind, code) => phrase(line, refusal_phrase(kind, code)),
         RunError::NothingToCopy => phrase(line, nothing_phrase(FileKind::Keytab)),
         RunError::NothingSelected(kind) => phrase(line, nothing_phrase(kind)),
+        RunError::NoTicketIn(sought) | RunError::NoTickets(sought) => {
+            phrase(line, no_ticket_phrase(sought))
+        }
         RunError::NoSuchFile(source) => missing_words(line, source),
         RunError::OtherType(kind, source) => other_type_words(line, kind, file, source),
         RunError::TypedName => typed_words(line, file),
@@ -227,6 +252,7 @@ pub fn error_words<'a>(
         RunError::NotAKeytabToList(why) => phrase(line, list_phrase(why)),
         RunError::NotACache(why) => phrase(line, no_cache_phrase(why)),
         RunError::NotACacheToHold(why) => phrase(line, hold_phrase(why)),
+        RunError::NotACacheToMatch(why) => phrase(line, match_phrase(why)),
         RunError::NeitherToShow(why) => phrase(line, show_phrase(why)),
         RunError::OutputIsTerminal => phrase(line, "the image is for a program; give it a pipe"),
         RunError::ClockNotRead => phrase(line, "the clock is before 1970 or after 2106, or failed"),
@@ -263,6 +289,7 @@ pub fn verdict_words(verdict: Verdict, file: &[u8], line: Option<u64>) -> Line<'
         | Verdict::Without
         | Verdict::Differ
         | Verdict::Replied(_)
-        | Verdict::Found(_) => nothing(),
+        | Verdict::Found(_)
+        | Verdict::Judged(_) => nothing(),
     }
 }
