@@ -1,5 +1,5 @@
 -- Tokens after tokens, and the objects that they make.
-use Rattle.krb_json.proofs.Cited.{◌≡◌, ℕ, List, [], ◌∷◌, ◌++◌, Option, None, Some, codes, refl, sym, ap, ◌∙◌, append_assoc, append-nil, Token, begin_object, end_object, begin_array, key, string, null, json_tokens, Member, object_of, number_of, text_or_null, member_tokens, tokens_of, head_tokens, flat_map-append}
+use Rattle.krb_json.proofs.Cited.{◌≡◌, ℕ, List, [], ◌∷◌, ◌++◌, sym, ap, ◌∙◌, append_assoc, append-nil, Token, begin_object, end_object, begin_array, key, json_tokens, Member, object_of, member_tokens, tokens_of, head_tokens, flat_map-append}
 use Rattle.krb_json.proofs.Arrays.{members_append, members_end_object}
 
 -- after a list another, and then a third
@@ -25,6 +25,15 @@ object_by_one m ms = ap (λ l. begin_object ∷ (member_tokens m ++ l)) (members
 -- an object of a member and a list of members
 pub written_by_one : (m : Member) (ms : List Member) (old t u new : List Token) → t ≡ old ++ begin_object ∷ member_tokens m → u ≡ t ++ tokens_of ms → new ≡ u ++ end_object ∷ [] → new ≡ old ++ json_tokens (object_of (m ∷ ms))
 written_by_one m ms old t u new e1 e2 e3 = rw (e3, e2, e1, object_by_one m ms) (simp append_assoc)
+
+-- an object of two members and two lists of members
+pub written_by_two : (m n : Member) (a b : List Member) (old t u v w x new : List Token)
+    → t ≡ old ++ begin_object ∷ [] → u ≡ t ++ member_tokens m → v ≡ u ++ member_tokens n → w ≡ v ++ tokens_of a → x ≡ w ++ tokens_of b → new ≡ x ++ end_object ∷ []
+    → new ≡ old ++ json_tokens (object_of (m ∷ n ∷ (a ++ b)))
+written_by_two m n a b old t u v w x new e1 e2 e3 e4 e5 e6 =
+    chain old t new (begin_object ∷ []) _ e1
+    (chain t u new (member_tokens m) _ e2 (chain u v new (member_tokens n) _ e3 (chain v w new (tokens_of a) _ e4 (chain w x new (tokens_of b) (end_object ∷ []) e5 e6))))
+    ∙ ap (λ l. old ++ begin_object ∷ (member_tokens m ++ (member_tokens n ++ l))) (sym (members_append a b ∙ ap (λ l. tokens_of a ++ l) (members_end_object b)))
 
 object_by_four : (a b : List Member) (m : Member) (d : List Member)
     → json_tokens (object_of (a ++ (b ++ (m ∷ d)))) ≡ begin_object ∷ (tokens_of a ++ (tokens_of b ++ (member_tokens m ++ (tokens_of d ++ (end_object ∷ [])))))

@@ -3,6 +3,6 @@ pub use Rattle.krb_json.proofs.Cited.{ABOUT_ENTRIES, Begins, IfOk-weaker, Placed
 pub use Rattle.krb_json.proofs.Adding.{AddsSome, adds_all, adds_fails, adds_more, adds_next, adds_no_more, adds_none, adds_stop, adds_two, cons_front, missing_are}
 pub use Rattle.krb_json.proofs.Chains.{chain, head_written, one_more_member, written_by_five, written_by_four, written_by_one}
 pub use Rattle.krb_json.proofs.EscapedLemmas.{added-first, added-pair}
-pub use Rattle.krb_json.proofs.ReadBack.{about_is_plain, cache_is_read, check_is_read, config_is_plain, entry_is_plain, head_is_plain, keytab_is_read, summary_is_read, ticket_is_plain}
+pub use Rattle.krb_json.proofs.ReadBack.{about_is_plain, cache_is_read, check_is_read, config_is_plain, entry_is_plain, head_is_plain, keytab_is_read, match_is_read, summary_is_read, ticket_is_plain}
 pub use Rattle.krb_json.proofs.Sending.{prints_memory}
-pub use Rattle.krb_json.proofs.Wholes.{cache_text, check_text, keytab_text}
+pub use Rattle.krb_json.proofs.Wholes.{cache_text, check_text, keytab_text, match_text}

@@ -1,5 +1,6 @@
 -- What is written is read back.
-use Rattle.krb_json.proofs.Cited.{◌≡◌, ℕ, ◌<◌, ◌≤◌, ◌^◌, Bool, true, false, cond, List, [], ◌∷◌, ◌++◌, codes, Option, None, Some, lit<, refl, arith, length, is_utf8, depth, items_depth, members_depth, HasNumbers, ItemsHaveNumbers, MembersHaveNumbers, name_text, CacheState, PlacedCredential, placed_credentials, ConfigParts, json_text, Member, object_of, mode_value, check_members, first_members, about_members, finding_value, finding_values, missing_value, check_value, refused_value, members_of, etype_members, file_members, text_member, text_or_null, fault_value, digits_of, owner_members, key_members, entry_value, entry_values, keytab_value, party_members, time_members, flag_members, integer_or_null, name_of_etype, own_server_member, own_members, offset_value, size_members, about_member, ticket_value, config_value, ticket_values, config_values, cache_members, cache_value, IsPlain, ArePlain, items_of, ℤ, pos, option_map, FitsSigned, w64, fault_of, KeytabState, store_of, offset_in, ticket_server, ticket_encryption, CheckParts, etype_name_of}
+use Rattle.krb_json.proofs.Cited.{◌≡◌, ℕ, ◌<◌, ◌≤◌, ◌^◌, Bool, true, false, cond, List, [], ◌∷◌, ◌++◌, codes, Option, None, Some, lit<, refl, arith, length, is_utf8, depth, items_depth, members_depth, HasNumbers, ItemsHaveNumbers, MembersHaveNumbers, name_text, CacheState, PlacedCredential, placed_credentials, ConfigParts, json_text, Member, object_of, mode_value, check_members, first_members, about_members, finding_value, finding_values, missing_value, check_value, refused_value, members_of, etype_members, file_members, text_member, text_or_null, fault_value, digits_of, owner_members, key_members, entry_value, entry_values, keytab_value, party_members, time_members, flag_members, integer_or_null, name_of_etype, own_server_member, own_members, offset_value, size_members, about_member, ticket_value, config_value, ticket_values, config_values, cache_members, cache_value, IsPlain, ArePlain, items_of, ◌+◌, get_or, drop, map, take, number_of, option_and_then, ℤ, pos, option_map, FitsSigned, w64, fault_of, KeytabState, store_of, offset_in, ticket_server, ticket_encryption, CheckParts, etype_name_of}
+use Rattle.std.proofs.Common.{add-one, drop-cons}
 use Rattle.json.specs.Json.{Json, string, document}
 use Rattle.json.proofs.Printed.Decimals.{IsNumber-decimal, IsNumber-signed_decimal}
 use Rattle.krb_wire.specs.declared.format.KtFormat.{KtFormat}
@@ -18,6 +19,10 @@ use Rattle.krb_ccache.specs.declared.offset.Offset.{Offset}
 use Rattle.krb_ccache.specs.declared.ticket.TicketEncryption.{TicketEncryption}
 use Rattle.krb_audit.specs.declared.counts.Counts.{Counts}
 use Rattle.krb_findings.specs.declared.finding.Finding.{Finding}
+use Rattle.krb_match.specs.declared.judgement.Judgement.{Judgement}
+use Rattle.krb_match.specs.declared.judgement.Judgement.TheVariants.{Etype}
+use Rattle.krb_match.specs.Tickets.{MatchedParts}
+use Rattle.krb_json.specs.Matches.{etypes_value, found, judgement_members, match_members, match_value, matches_value, ticket_numbers}
 use Rattle.krb_json.specs.declared.summary.CacheSummary.{CacheSummary}
 use Rattle.krb_json.specs.Summary.{number_or_null, summary_value}
 use Rattle.krb_json.proofs.EscapedReads.{document-text}
@@ -153,6 +158,37 @@ file_finding_is_plain finding = record { numbers = (tt, tt); flat = omega arith 
 pub missing_is_plain : (name : List ℕ) → IsPlain (missing_value name)
 missing_is_plain name = record { numbers = (tt, (text_numbers (codes "principal") name, tt)); flat = omega (arith, text_depth (codes "principal") name) }
 
+-- ---- matches
+
+numbers_depth : (ns : List ℕ) → items_depth (items_of (map number_of ns)) ≡ 0
+numbers_depth [] = refl
+numbers_depth (n ∷ ns) = omega (arith, numbers_depth ns)
+
+-- a number before others that a reader reads
+pub number_before : (ns : List ℕ) (i : ℕ) → i < length ns → get_or ns i 0 < 2 ^ 32 → ItemsHaveNumbers (items_of (map number_of (drop (i + 1) ns))) → ItemsHaveNumbers (items_of (map number_of (drop i ns)))
+number_before ns i below small h =
+    let rest = rw add-one at h in
+    rw (drop-cons ns i 0 below) (IsNumber-decimal (get_or ns i 0) (omega arith), rest)
+
+etypes_depth : (j : Judgement) → depth (etypes_value j) ≤ 1
+etypes_depth (Etype etypes) = omega (arith, numbers_depth (take 8 etypes))
+etypes_depth _ = omega arith
+
+pub match_is_plain : (t : MatchedParts) → t.place < 2 ^ 32 → MembersHaveNumbers (members_of (ticket_numbers t.encryption)) → MembersHaveNumbers (members_of (judgement_members t.judgement)) → IsPlain (match_value t)
+unfolding ticket_numbers judgement_members
+match_is_plain t place own said = record {
+  numbers = (IsNumber-decimal t.place (omega arith), (text_numbers (codes "name") t.name, (own.0, (own.1.0, said))));
+  flat = omega (
+    arith,
+    text_depth (codes "name") t.name,
+    integer_depth (option_and_then (λ e. option_map pos e.kvno) t.encryption),
+    integer_depth (option_map (λ e. e.etype) t.encryption),
+    integer_depth (found t.judgement).0,
+    integer_depth (found t.judgement).1,
+    etypes_depth t.judgement,
+  );
+}
+
 -- ---- faults
 
 fault_number_small : (kind : FaultKind) → fault_number kind < 2 ^ 64
@@ -174,16 +210,13 @@ offset_is_plain o seconds micros = record {
   flat = omega arith;
 }
 
-pub no_offset_is_plain : IsPlain (offset_value None)
-no_offset_is_plain = record { numbers = tt; flat = omega arith }
-
 -- ---- arrays
 
 plain_numbers : (vs : List Json) → ArePlain vs → ItemsHaveNumbers (items_of vs)
 plain_numbers [] h = tt
 plain_numbers (v ∷ vs) h = (h.0.numbers, plain_numbers vs h.1)
 
-plain_depth : (vs : List Json) → ArePlain vs → items_depth (items_of vs) ≤ 1
+plain_depth : (vs : List Json) → ArePlain vs → items_depth (items_of vs) ≤ 2
 plain_depth [] h = omega arith
 plain_depth (v ∷ vs) h = omega (arith, h.0.flat, plain_depth vs h.1)
 
@@ -210,6 +243,14 @@ check_is_read file c status head findings fault small =
     document-text (check_value file c status)
     (tt, (n.1.0, (n.1.1.0, (n.1.1.1.0, (n.1.1.1.1.0, (plain_numbers (finding_values c) findings, (fault.numbers, (IsNumber-decimal status (omega arith), tt))))))))
     (omega (arith, mode_depth c.mode, plain_depth (finding_values c) findings, fault.flat))
+
+pub match_is_read : (keytab file : List ℕ) (ts : List MatchedParts) (fault : Option Fault) (status : ℕ) → ArePlain (map match_value ts) → IsPlain (fault_value fault) → status < 2 ^ 8
+    → document (json_text (matches_value keytab file ts fault status)) ≡ Some (matches_value keytab file ts fault status)
+unfolding matches_value match_members
+match_is_read keytab file ts f status tickets fault small =
+    let vs = map match_value ts in
+    document-text (matches_value keytab file ts f status) (tt, (tt, (plain_numbers vs tickets, (fault.numbers, (IsNumber-decimal status (omega arith), tt)))))
+    (omega (arith, plain_depth vs tickets, fault.flat))
 
 pub refused_is_read : (file error : List ℕ) (status : ℕ) → status < 2 ^ 8 → document (json_text (refused_value file error status)) ≡ Some (refused_value file error status)
 unfolding refused_value

@@ -5,4 +5,5 @@ pub mod Keytab
 pub mod Cache
 pub mod Summary
 pub mod Check
+pub mod Matches
 pub mod Pieces

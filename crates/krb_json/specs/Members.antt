@@ -8,7 +8,7 @@ use Rattle.krb_walk.specs.declared.fault.Fault.{Fault}
 use Rattle.krb_walk.specs.Phrases.{fault_number}
 use Rattle.krb_text.specs.Etype.{etype_name_of}
 use Rattle.krb_json.specs.declared.put.Label.{Label}
-use Rattle.krb_json.specs.declared.put.Label.TheVariants.{Principal, DefaultPrincipal, Client, Server, TicketServer, Key, Value, Error}
+use Rattle.krb_json.specs.declared.put.Label.TheVariants.{Principal, DefaultPrincipal, Client, Server, TicketServer, Key, Value, Error, Name}
 
 -- a member of an object: its name and its value
 abbrev pub Member : Type 0
@@ -74,3 +74,4 @@ label_text TicketServer = codes "ticket_server"
 label_text Key = codes "key"
 label_text Value = codes "value"
 label_text Error = codes "error"
+label_text Name = codes "name"

@@ -54,10 +54,10 @@ after_tickets xs = text_of (between_tokens (codes "config")) ++ elements_text fa
 abbrev pub arrays_text : CacheState → List ℕ
 arrays_text k = elements_text false (ticket_values (placed_credentials k)) ++ after_tickets (placed_credentials k)
 
--- a value that a reader reads back: its numbers are JSON numbers, and it nests at most one level deep
+-- a value that a reader reads back: its numbers are JSON numbers, and it nests at most two levels deep
 pub record IsPlain (v : Json) : Type 0 where
   pub numbers : HasNumbers v
-  pub flat : depth v ≤ 1
+  pub flat : depth v ≤ 2
 
 -- such values
 abbrev pub ArePlain : List Json → Type 0

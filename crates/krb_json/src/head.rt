@@ -25,7 +25,7 @@ impl<A: Allocator> Piece<A> {
     }
 
     /// Writes the time offset of a cache, or null if it has none.
-    #[tactic(auto, using(crate::proofs::ReadBack::offset_is_plain, crate::proofs::ReadBack::no_offset_is_plain))]
+    #[tactic(auto, using(crate::proofs::ReadBack::offset_is_plain, crate::proofs::ReadBack::no_fault_is_plain))]
     pub fn offset(&mut self, offset: Option<Offset>) -> Result<(), NoMemory>
         ensures tokens { OnOk result (self.new ≡ self.old ++ member_tokens (codes "offset", offset_value offset)) }
         ensures plain { OnOk result (IsPlain (offset_value offset)) }

@@ -2,7 +2,7 @@
 
 ghost use Rattle.std.specs.Prelude.{◌≡◌, ◌++◌, [], ◌∷◌, OnOk, not, option_copied};
 ghost use Rattle.json.specs.Token.{begin_object, end_object, begin_array, end_array, key, string, boolean, null};
-ghost use Rattle.json.specs.Tree.{HasNumbers};
+ghost use Rattle.json.specs.Tree.{HasNumbers, json_tokens};
 ghost use Rattle.krb_wire.specs.Names.{name_text};
 ghost use Rattle.krb_text.specs.Flags.{flag_letters_of};
 ghost use Rattle.krb_json.specs.Cache.{integer_or_null};
@@ -140,6 +140,13 @@ impl<A: Allocator> Piece<A> {
         ensures { OnOk result (self.new ≡ self.old ++ member_tokens (name.now, number_of value)) }
     {
         self.writer.key(name)?;
+        Ok(self.writer.u64(value)?)
+    }
+
+    /// Writes a number that is an element of an array.
+    pub fn element(&mut self, value: u64) -> Result<(), NoMemory>
+        ensures { OnOk result (self.new ≡ self.old ++ json_tokens (number_of value)) }
+    {
         Ok(self.writer.u64(value)?)
     }
 

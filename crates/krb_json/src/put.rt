@@ -23,6 +23,7 @@ pub enum Label {
     Key,
     Value,
     Error,
+    Name,
 }
 
 impl Label {
@@ -39,6 +40,7 @@ impl Label {
             Label::Key => "key",
             Label::Value => "value",
             Label::Error => "error",
+            Label::Name => "name",
         }
     }
 
@@ -55,6 +57,7 @@ impl Label {
             Label::Key => "key_hex",
             Label::Value => "value_hex",
             Label::Error => "error_hex",
+            Label::Name => "name_hex",
         }
     }
 }

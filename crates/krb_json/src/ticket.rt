@@ -23,8 +23,8 @@ fn name_of(encryption: Option<TicketEncryption>) -> Option<&'static str>
     etype_name(u16::try_from(encryption?.etype).ok()?)
 }
 
-// Returns a ticket's own kvno, if it has one.
-fn kvno_of(encryption: Option<TicketEncryption>) -> Option<i64>
+/// Returns a ticket's own kvno, if it has one.
+pub fn kvno_of(encryption: Option<TicketEncryption>) -> Option<i64>
     ensures { result ≡ option_and_then (λ e. option_map pos e.kvno) encryption }
 {
     Some(encryption?.kvno? as i64)
