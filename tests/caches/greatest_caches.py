@@ -4,15 +4,17 @@ there is room."""
 from dataclasses import replace
 
 from keytabs.file_names import LIMIT
-from keytabs.greatest import at_each, repeated, with_room
-from makers.images import TICKET, U, Credential, Name, cache, config
+from keytabs.greatest import LEAST_RECORD, at_each, repeated, with_room
+from makers.images import TICKET, U, Credential, Entry, Name, cache, config, keytab, number, ticket_of
 from runs.harness import Case, message, over
+from words.phrases import MATCHES
 
 # The smallest ticket: empty names, and no byte that is not a length, a time or a flag.
 LEAST = Credential(Name((), b"", 0), Name((), b"", 0), 0, None, b"", 0, 0, 0, flags=0, ticket=b"")
 SIZE = len(LEAST.spelled())
 ROOM = LIMIT - len(cache())  # how much room a cache has
 PLACES = range(22, 22 + ROOM // SIZE * SIZE, SIZE)  # the places of the most tickets
+MARK = 0x7F_4D_41_52  # in the place of numbers
 VALUE = b"v" * (ROOM - len(config(b"k", b"").spelled()))  # the longest value under `k`
 
 
@@ -52,6 +54,30 @@ def reads() -> list[Case]:
         with_room("the most tickets", "klist --json c", c=least()),
         with_room("the longest value", "klist --json c", c=cache(config(b"k", VALUE))),
     ]
+
+
+def numbered(form: bytes, count: int) -> bytes:
+    """Returns as many copies of a text, each with another number in place of MARK."""
+    parts = form.split(number(MARK, 4))
+    return b"".join(number(2**30 + at, 4).join(parts) for at in range(count))
+
+
+def matches() -> list[Case]:
+    """Returns what is said of tickets by entries of one name, of as many versions and of all types, and of as many
+    names, none of which has an entry."""
+    short, long = Name((b"",), b""), Name((b"x" * 200 + number(MARK, 4),), b"")
+    versions = numbered(LEAST_RECORD[:-4] + number(MARK, 4), 600_000)
+    types = b"".join(LEAST_RECORD[:19] + number(at % 2**16, 2) + LEAST_RECORD[21:] for at in range(600_000))
+    names = numbered(keytab(Entry((*long.components, b"b")))[2:], 60_000)
+    *others, explained = (
+        with_room(kind, f"ktmatch {options}k c", status=status, k=keytab(entries), c=cache(numbered(replace(
+            LEAST, server=name, ticket=ticket_of(name, *numbers).ticket).spelled(), count)))
+        for kind, options, status, entries, name, numbers, count in (
+            ("versions", "", 0, versions, short, (0, MARK), 130_000),
+            ("types", "--json ", 1, types, short, (MARK, 0), 130_000),
+            ("names", "--explain ", 1, names, long, (17, 3), 25_000)))
+    words = f"krbfile: name: {MATCHES['name']}\n".encode()
+    return [*others, replace(explained, wanted=replace(explained.wanted, err=words))]
 
 
 def edits() -> list[Case]:

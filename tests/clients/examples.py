@@ -21,6 +21,7 @@ FOUND = b"./mixed.keytab: weak 53 kvno 3 etype 23 b@R\n./mixed.keytab: entries 2
 JOBS = {"keytabs.cron": FOUND, "keytabs.service": FOUND, "keytabs.yml":
         b'{"file":"./mixed.keytab","mode":"600","entries":2,"free":0,"holes":0,"findings":[{"finding":"weak",'
         b'"place":53,"kvno":3,"etype":23,"principal":"b@R"}],"fault":null,"status":1}'}
+MATCHED = Outcome(0, b"opens 273 kvno 2 etype 23 at 168 HTTP/www.example.org@EXAMPLE.ORG\n")  # what ticket.conf prints
 REMOVED = b"removed 2 kvno 3 etype 17 host/a@R\n"  # another line, which all jobs print
 
 # The scripts, also over a cache with an offset and two tickets for one service, and the files that they leave.
@@ -29,6 +30,11 @@ SCRIPTS = {
     "check_keytabs.sh --want 'a|b@R' damaged.keytab no": Outcome(
         2, b"KEYTABS CRITICAL: damaged.keytab: missing a/b@R, fault 2 at 53; no: no such file\n"),
     "check_keytabs.sh host.keytab .": Outcome(3, b"KEYTABS UNKNOWN: .: cannot read\n"),
+    "check_tickets.sh krb5.keytab alice.ccache": Outcome(0, b"TICKETS OK\n"),
+    "check_tickets.sh -p HTTP/www.example.org@EXAMPLE.ORG next.keytab alice.ccache no": Outcome(
+        2, b"TICKETS CRITICAL: alice.ccache: name 273 kvno 2 etype 23 HTTP/www.example.org@EXAMPLE.ORG;"
+           b"krbfile: no: no such file\n"),
+    "check_tickets.sh . alice.ccache": Outcome(3, b"TICKETS UNKNOWN: krbfile: .: cannot read\n"),
     "keytabs.prom.sh keytabs.prom --want b@R mixed.keytab twice.keytab .": Outcome(0, err=b"krbfile: .: cannot read\n"),
     "tickets.prom.sh odd tickets.prom": Outcome(0), "reset-offset.pl odd": Outcome(0),
     "edit-keytab.sh host.keytab sh -c 'cat; tail -c +3 other.keytab'": Outcome(0),
@@ -73,6 +79,9 @@ def check_jobs(report: Report, folder: str, env: dict[str, str]) -> None:
     (line,) = re.findall(r"`(krbfile ktcheck [^`]*)` in cron", read("README.md"))
     got = run("sh", ("-c", line.replace("/etc/", "./")), folder, env=env)
     report.check("README's line for cron", [] if got.status == 1 and FOUND in got.out else [f"{got}"])
+    (line,) = re.findall(r"^ExecStartPre=.*/(krbfile .*)", read("examples/ticket.conf"), re.MULTILINE)
+    line = line.replace("/etc/httpd.keytab", "krb5.keytab").replace("/run/httpd", "alice")
+    report.compare("ticket.conf", MATCHED, run("env", line.split(), folder, env=env))
     for name, found in JOBS.items():
         removal, search = commands(name, texts[name])
         for words, status, line in ((search, 1, found), (removal, 0, REMOVED)):

@@ -7,7 +7,7 @@ from random import Random
 
 from computed.topic import Topic
 from keytabs.listings import KNOWN_TIMES
-from makers.images import CONFIG_FIRST, CONFIG_REALM, TWO, Credential, Name, cache, name_text
+from makers.images import CONFIG_FIRST, CONFIG_REALM, TWO, Credential, Name, cache, name_text, ticket_of
 from makers.random_caches import SAMPLES as CACHES
 from makers.random_caches import random_cache, random_credential, with_damage
 from makers.random_keytabs import SAMPLES as KEYTABS
@@ -23,6 +23,10 @@ FOUND = Choices(names=(*[(b"a", b"R")] * 5, (b"a", b"b", b"R"), (b"a/b", b"R"), 
 CHECKED = Choices(names=((b"a", b"R"), (b"a", b"b", b"R"), (b"", b"R"), (b"\xff ", b"R"), ("é\t".encode(), b"R")),
                   versions=(1, 240), enctypes=(3, 17, 23), timestamps=(0, 1, 2**32 - 1),
                   keys=(b"", b"x", b"x", b"y", bytes(16)))
+MATCHED = Choices(names=(*[(b"a", b"R")] * 6, (b"A", b"R"), (b"a", b"S"), (b"krbtgt", b"R"), (b"R",)),
+                  versions=(0, 1, 1, 1, 44, 255, 257, 300, 2**32 - 1), enctypes=(17, 17, 17, 18, 2**16 - 1),
+                  timestamps=(0, 1, 2))
+TICKET_KVNOS = (None, 0, 1, 1, 1, 44, 255, 257, 300, 513, 2**32 - 1, -212)
 WANTED = ("a@R", r"\a@R", "a/b@R", "@R", r"a\/b@R", r"é\t@R", "c@R")
 
 # The names of servers, some of them printed alike.
@@ -120,6 +124,27 @@ def view(random: Random) -> Iterator[Undisturbed]:
     yield undisturbed(("show", *options(random, "--v1-big"), *words), clock=NOW, **files)
 
 
+def matched_ticket(random: Random) -> Credential:
+    """Returns a ticket for one of few services, sometimes for another to the cache, or damaged."""
+    names = [Name(tuple(parts), realm) for *parts, realm in MATCHED.names]
+    own, other = random.choice(names), random.choice([*names, *SERVERS])
+    made = ticket_of(own, random.choice((17, 17, 17, 18, -1)), random.choice(TICKET_KVNOS),
+                     is_skey=int(random.random() < 0.1), server=own if random.random() < 0.75 else other)
+    return replace(made, ticket=damaged(random, made.ticket, b"tkt")) if random.random() < 0.1 else made
+
+
+def match(random: Random) -> Iterator[Undisturbed]:
+    """Yields what is said of the tickets of up to three caches, and the same as JSON."""
+    image, is_big = MATCHED.random_keytab(random)
+    files = {name: with_damage(random, cache(*(matched_ticket(random) for _ in range(random.randrange(7)))), 0.1)
+             for name in "cd"}
+    asked = [b"-p" + name_text(name) for name in random.choices(MATCHED.names, k=random.choice((0, 0, 1, 2)))]
+    words = (*options(random, "-q", "-H"), *("--v1-big",) * is_big, *asked, "k",
+             *random.choices([*"ccccddkn", "DIR::d"], k=random.choice((1, 1, 2, 3))))
+    for json in ((), ("--json",)):
+        yield undisturbed(("ktmatch", *json, *words), k=image, **files)
+
+
 def question(random: Random) -> Iterator[Undisturbed]:
     """Yields a question whether a cache has a valid ticket, or one that is valid for a while."""
     made = cache_of_tickets(random)
@@ -131,5 +156,6 @@ def question(random: Random) -> Iterator[Undisturbed]:
 TOPICS = (
     Topic("random keytabs", keytab_listing, 100), Topic("random caches", cache_listing, 60),
     Topic("random overviews", overview, 40), Topic("random look-ups", look_up, 80), Topic("random views", view, 40),
-    Topic("random checks", checked, 80), Topic("random questions for tickets", question, 40),
+    Topic("random checks", checked, 80), Topic("random matches", match, 80),
+    Topic("random questions for tickets", question, 40),
 )

@@ -10,15 +10,17 @@ KEPT = {"n": "dry-run", "p:": "principal", "k:": "kvno", "e:": "enctype"}
 LETTERS = {
     "klist": {"k": "keytab", "c": "cache", "t": "times", "e": "enctypes", "K": "keys", "f": "flags", "C": "config",
               "l": "list", "s": "silent"},
-    "show": {"k": "keytab"}, "ktcheck": {"q": "quiet", "H": "with-filename"}, "ktremove": KEPT, "ktcopy": KEPT,
-    "ktdiff": KEPT, "hold": {"k": "keytab"},
+    "show": {"k": "keytab"}, "ktmatch": {"q": "quiet", "H": "with-filename", "p:": "principal"},
+    "ktcheck": {"q": "quiet", "H": "with-filename"}, "ktremove": KEPT, "ktcopy": KEPT, "ktdiff": KEPT,
+    "hold": {"k": "keytab"},
     "ccremove": {"n": "dry-run", "p:": "service"}, "ktfind": {}, "ktedit": {}, "ccedit": {}, "ktutil": {},
 }
 LONG = ("json", "for=", "v1-big", "in-place", "allow=", "older=", "want=", "age=", "as=", "replace",
         "all-services", "expired")
 
 # The names of the operands; the last one is for all that follow.
-OPERANDS = {"ktfind": ("FILE", "KVNO", "ETYPE", "NAME"), "ktcopy": ("FROM", "TO"), "ktdiff": ("A", "B"), "ktutil": ()}
+OPERANDS = {"ktfind": ("FILE", "KVNO", "ETYPE", "NAME"), "ktmatch": ("KEYTAB", "CACHE"), "ktcopy": ("FROM", "TO"),
+            "ktdiff": ("A", "B"), "ktutil": ()}
 
 # What a definition is given before the files, which have an input after them, if that is not only whether messages are
 # explained; klist's is another by its other options.
@@ -68,7 +70,7 @@ class Words:
         operand = OPERANDS.get(self.command, ("FILE",))
         named = operands[:1] if self.command == "ktfind" else operands
         # The definitions have a file for each name, and do not know paths.
-        if bool(operands) != bool(operand) or any("/" in it for it in named) or b" ./" in case.stdin:
+        if len(operands) < len(operand) or any("/" in it for it in named) or b" ./" in case.stdin:
             raise NotComputed("a path, or a default name")
         self.values = [each for each in those if each[0] in takes]
         self.values += [(operand[min(nth, len(operand) - 1)], it) for nth, it in enumerate(operands)]

@@ -253,3 +253,16 @@ def ticket(data: bytes, fields: bytes = TICKET_FIELDS, at: int = -1,
     for level, (tag, front) in enumerate(((0x30, b""), (0xA3, b""), (0x30, fields), (0x61, b""))):
         data = (odd if level == at else element)(tag, front + data)
     return data
+
+
+def ticket_fields(name: Name) -> bytes:
+    """Returns the first fields of a ticket for a service."""
+    components = element(0x30, b"".join(element(0x1B, each) for each in name.components))
+    service = element(0x30, element(0xA0, element(2, integer(name.name_type))) + element(0xA1, components))
+    return TICKET_VERSION + element(0xA1, element(0x1B, name.realm)) + element(0xA2, service)
+
+
+def ticket_of(service: Name, etype: int = 17, kvno: int | None = 3, /, **more) -> Credential:
+    """Returns a credential with a ticket for a service, by its own bytes too, under a key of that type and version."""
+    own = ticket(encrypted(integer(etype), None if kvno is None else integer(kvno)), ticket_fields(service))
+    return replace(TICKET, **{"server": service, "ticket": own, **more})

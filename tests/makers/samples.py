@@ -3,8 +3,7 @@
 from dataclasses import replace
 from pathlib import Path
 
-from makers.images import (B, HOST, PA_TYPE, TICKET, TWO, Credential, Entry, Name, cache, encrypted, integer, keytab,
-                           old, ticket)
+from makers.images import B, HOST, PA_TYPE, TICKET, TWO, Credential, Entry, Name, cache, keytab, old, ticket_of
 
 REALM = b"EXAMPLE.ORG"
 ALICE = Name((b"alice",), REALM)
@@ -17,18 +16,17 @@ def key_of(service: bytes, kvno: int, enctype: int) -> Entry:
                  bytes(range(kvno, kvno + (32 if enctype == 18 else 16))), kvno)
 
 
-def ticket_of(first: bytes, second: bytes, kvno: int, enctype: int, renew_till: int = 0) -> Credential:
+def alices(first: bytes, second: bytes, kvno: int, enctype: int, renew_till: int = 0) -> Credential:
     """Returns Alice's ticket for a service."""
-    spelled = ticket(encrypted(integer(enctype), integer(kvno)))
-    return Credential(ALICE, Name((first, second), REALM), 18, key=bytes(32), authtime=1_708_634_600,
-                      endtime=1_708_670_600, renew_till=renew_till, ticket=spelled)
+    return ticket_of(Name((first, second), REALM), enctype, kvno, client=ALICE, enctype=18, key=bytes(32),
+                     authtime=1_708_634_600, endtime=1_708_670_600, renew_till=renew_till)
 
 
 SAMPLES = {
     "krb5.keytab": keytab(key_of(b"host", 3, 18), key_of(b"host", 3, 17), key_of(b"HTTP", 2, 23)),
     "next.keytab": keytab(key_of(b"host", 4, 18), key_of(b"host", 4, 17)),
-    "alice.ccache": cache(ticket_of(b"krbtgt", REALM, 1, 18, 1_709_239_400),
-                          ticket_of(b"HTTP", b"www.example.org", 2, 23), default=ALICE),
+    "alice.ccache": cache(alices(b"krbtgt", REALM, 1, 18, 1_709_239_400),
+                          alices(b"HTTP", b"www.example.org", 2, 23), default=ALICE),
     "host.keytab": TWO, "backup.keytab": TWO,
     "other.keytab": keytab(Entry((b"nfs", b"a"), version8=5, enctype=18, key=bytes(32), version32=5)),
     "rotated.keytab": keytab(HOST, Entry(version8=5, version32=5), B), "twice.keytab": keytab(HOST, HOST),

@@ -9,7 +9,7 @@ from itertools import product
 
 from keytabs.file_names import NOBODY
 from makers.images import TWO
-from names.named_files import DEFAULTS, IMAGES, KLIST, KLIST_CACHE, NEITHER, FileName, Kind
+from names.named_files import BESIDE, DEFAULTS, IMAGES, KLIST, KLIST_CACHE, NEITHER, FileName, Kind
 from runs.harness import EXPLAIN, Line, Report, every, folder_of, message, run, words_of
 from runs.namespaces import STATUS, no_mounts, run_within
 from system.saving import write
@@ -56,7 +56,7 @@ def other_system(report: Report, program: str, keytab: bytes | None, status: byt
                  mounts: dict[str, str] | None = None) -> Iterator[Callable[[Explained], None]]:
     """Yields what checks the end of a line beside a default keytab or none, another text about the run, and
     other mounts."""
-    with folder_of({"c": CACHE, "status": status}) as folder:
+    with folder_of({"c": CACHE, BESIDE: TWO, "status": status}) as folder:
         os.mkdir(os.path.join(folder, "etc"))
         if keytab is not None:
             write(os.path.join(folder, "etc", "krb5.keytab"), keytab)

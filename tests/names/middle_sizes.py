@@ -6,7 +6,7 @@ from dataclasses import replace
 from caches.cache_listings import HEADING, line_of
 from keytabs import ktutil_lines
 from keytabs.listings import B_LINE, listed
-from makers.images import B, TICKET, Entry, Name, cache, config, keytab, old
+from makers.images import B, TICKET, Entry, Name, cache, config, keytab, old, ticket_of
 from names.several_keytabs import labelled, words
 from runs.harness import Case, Outcome, over, printed, text, words_of
 from runs.undisturbed import frame
@@ -30,13 +30,15 @@ K, T = (keytab(*(replace(B, components=(b"%02d" % (at % 50),), version8=1 + at /
 J, VALID = keytab(replace(B, timestamp=0)), replace(TICKET, endtime=2**32 - 1)
 CACHES = {"c": cache(*(replace(VALID, server=Name((b"%02d" % (at % 50),))) for at in range(COUNT))), "j": cache(VALID)}
 LONG = replace(VALID, ticket=bytes(200_000))  # a ticket of 200,105 bytes
+# Tickets of 151 bytes under the keys of K.
+OWN = cache(*(ticket_of(Name((b"%02d" % (at % 50),)), 17, 1 + at // 50) for at in range(COUNT)))
 TABLE, KEYS = "KVNO  ADDED  KEYS    PRINCIPAL", "3     -      aes128  "  # in what show prints
 
 
 def lines(form: str, size: int = 46, start: int = 2, count: int = COUNT) -> list[str]:
     """Returns lines of that form for each entry, ticket or value, of that size and from that place on."""
-    return [form.format(slot=at + 1, place=start + size * at, after=start + size * (at + 1), kvno=1 + at // 50,
-                        name=NAMES[at % 50], number=at) for at in range(count)]
+    return [form.format(slot=at + 1, ticket=22 + 151 * at, place=start + size * at, after=start + size * (at + 1),
+                        kvno=1 + at // 50, name=NAMES[at % 50], number=at) for at in range(count)]
 
 
 def row(line: str, wanted: list[str] | Outcome, after: dict[str, bytes] | None = None, given: bytes = b"",
@@ -57,6 +59,8 @@ CASES = [
         *lines("k: old " + ENTRY)[:-50], "k: entries 5000 free 0 holes 0", *labelled(
             j=[*(f"missing {name}" for name in NAMES), "entries 1 free 0 holes 0"]) * 60]),
                        *words("k", "old"), *words("j", "missing"), setting=for_owner),
+    lambda: row(f"ktmatch {BY_NAME} k c{OTHERS}", lines("c: opens {ticket} kvno {kvno} etype 17 at {place} {name}"),
+                k=K, c=OWN, j=CACHES["j"]),
     lambda: row("ktfind k 100 17 49@R", lines("found " + ENTRY)[-1:], k=K),
     lambda: row(f"ktdiff {ASKED} k t", printed(*lines("! {place} " + ENTRY), status=1), k=K, t=T),
     lambda: row(f"ktremove {ASKED} k{OTHERS}", lines("k: removed " + ENTRY), {"k": keytab(*[42] * COUNT)}, k=K, j=J),

@@ -137,7 +137,7 @@ class Command:
             spelled = json.dumps(name.text, ensure_ascii=False)[1:-1] if "--json" in words else name.text
             out = usual.replace(NAME.encode(), spelled.encode())
             after = files | {path if each == NAME else each: data for each, data in left.items()}
-        elif {"ktcheck", "--json"} <= {*words}:
+        elif "--json" in words and words[0] in ("ktcheck", "ktmatch"):
             out = unchecked(name.text, lines[0][0], status)
         elif words[0] == "hold":
             out = f"failed {status} {10 + NEITHERS[self.kinds][1] if place == NEITHER else 'ENOENT'}\n".encode()
@@ -145,9 +145,12 @@ class Command:
         return Explained(title, words, lines, files, self.run.stdin, status, out, after, {"env": env}, for_owner)
 
 
-# Runs over the file that they read, that they change, and that they make another of. Lines of ktutil name it otherwise.
+# Runs over the file that they read, that they change, that they make another of, and over ktmatch's keytab. Lines of
+# ktutil name it otherwise.
 COMMANDS = (*(Command(each, file_of(each)) for each in READS if each.words[0] not in SAVING),
             *(Command(each, file_of(each)) for each in CHANGES if each.words[0] != "ktutil"),
-            *(Command(each, name) for each in MAKES for name in each.files))
-DEFAULTS = tuple(each for each in COMMANDS if each.run.words[0] in ("klist", "show", "ktcheck"))
+            *(Command(each, name) for each in MAKES for name in each.files),
+            *(Command(each, "k") for each in READS if each.words == ("ktmatch", "k", "c")))
+DEFAULTS = tuple(each for each in COMMANDS if each.run.words[0] in ("klist", "show", "ktmatch", "ktcheck")
+                 and each.file == file_of(each.run))
 KLIST, KLIST_CACHE = (next(each for each in COMMANDS if each.kind is kind) for kind in Kind)

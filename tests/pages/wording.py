@@ -37,7 +37,7 @@ def of_manual(program: str) -> Iterator[tuple[str, set[object]]]:
 def of_mistakes() -> Iterator[tuple[str, set[object]]]:
     """Yields the mistakes that no line has, and the lines with another mistake."""
     patterns = {each: re.sub("WORD|OPTION|VARIABLE", "(?s:.*)", re.escape(each)) for each in phrases.MISTAKES}
-    patterns["no FILE"] = "no (?:FILE|FROM|TO|KVNO|ETYPE|NAME)"
+    patterns["no FILE"] = "no (?:FILE|KEYTAB|FROM|TO|KVNO|ETYPE|NAME)"
     lines = [*MISTAKES, *(phrase for phrase, _ in NEAR), "no command", "an argument is not UTF-8",
              "KRB5CCNAME is not UTF-8"]
     kinds = {line: {each for each, pattern in patterns.items() if re.fullmatch(pattern, line)} for line in lines}

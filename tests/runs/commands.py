@@ -8,7 +8,7 @@ from functools import partial
 from keytabs.edits import DAMAGED
 from keytabs.ktutil_lines import KEY
 from makers.images import (B, END, HOST, OFFSET, PA_TYPE, TICKET, TWO, USUAL, VERSION_3, Entry, Name, cache, config,
-                           encrypted, header_field, hole, keytab, old, record, ticket)
+                           encrypted, header_field, hole, keytab, old, record, ticket, ticket_of)
 from runs.harness import Case, text
 from runs.undisturbed import Run, Undisturbed, frame, in_place, undisturbed
 
@@ -16,9 +16,10 @@ SCRIPT = b"add 3 17 1700000000 000102030405060708090a0b0c0d0e0f host/a@R\n"  # t
 OLD, NEW = keytab(), keytab(HOST)  # the file before and after it
 CLASH = keytab(replace(B, key=b"other"))  # a keytab that clashes with TWO
 WALK = b"start\nstep 0\n"
-# Its ticket, whose own bytes alone have the realm of its server, is valid whenever a test runs.
+# A cache of a ticket that is valid whenever a test runs, whose own bytes alone have the realm of its server, and of one
+# that TWO has the key of.
 VALID = cache(replace(TICKET, server=Name((b"krbtgt", b"R"), b""), ticket=ticket(encrypted(b"\x12")),
-                      endtime=2**32 - 1), PA_TYPE, fields=OFFSET)
+                      endtime=2**32 - 1), ticket_of(Name((b"host", b"a"))), PA_TYPE, fields=OFFSET)
 
 
 @dataclass(frozen=True)
@@ -55,6 +56,8 @@ COMMANDS = {
         *(undisturbed(f"klist {options} c", c=VALID) for options in (
             "-c", "--json", "-l", "-l --json", "-cefC", "-s")))),
     "show": Command(reads=(undisturbed("show k", k=TWO), undisturbed("show c", c=VALID))),
+    "ktmatch": Command(reads=tuple(undisturbed(f"ktmatch {options}k c", k=TWO, c=VALID)
+                                   for options in ("", "-H --json -p host/a@R "))),
     "ktfind": Command(prints_early=True, reads=(undisturbed("ktfind k 0 0 b@R", k=TWO),)),
     "ktcheck": Command(reads=tuple(undisturbed(f"ktcheck {options}k", k=TWO)
                                    for options in ("", "--json ", "-H --want b@R "))),
@@ -174,8 +177,8 @@ def mixed_cache(count: int) -> bytes:
     """Returns a cache of tickets, configuration entries and removed ones."""
     parts = []
     for number in range(count):
-        ticket = replace(TICKET, server=Name((b"x" * (number % 90), b"%d" % number)),
-                         enctype=number % 30, renew_till=number % 3, endtime=NOW + number % 3 - 1)
+        ticket = ticket_of(Name((b"x" * (number % 90), b"%d" % number)), 17 + number % 2, number,
+                           enctype=number % 30, renew_till=number % 3, endtime=NOW + number % 3 - 1)
         parts += [ticket, config(b"key%d" % number, bytes(range(number % 256))), ticket.removed()]
     return cache(*parts, PA_TYPE, fields=header_field(9, b"xyz"))
 
@@ -199,6 +202,7 @@ def usual_runs(size: str, image: bytes, tickets: bytes, rotated: bytes, counts: 
         *(at_now(line, k=image) for line in ("klist -ktKe k", "klist -kK --json k", "ktfind k 0 17 -- xxx/3@R")),
         *(at_now(line, c=tickets) for line in ("klist -cefC c", "klist --json c")),
         at_now("show k c no r", k=image, c=tickets, r=rotated), at_now("ktcheck k", k=rotated),
+        *(at_now(line, k=image, c=tickets, d=VALID) for line in ("ktmatch k c", "ktmatch --json k d no c d")),
         *(at_now(f"ktcheck {options}k no r k", k=image, r=rotated)
           for options in ("", "--json --older 18500d --want c@R ")),
         at_now("ktedit k", mixed_script(image, counts[0]), name=f"a {size} script", k=image),

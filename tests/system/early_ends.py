@@ -16,9 +16,9 @@ NO_MEMORY = message(4, "out of memory")
 # else a run does is the same if a file cannot be read or written.
 UNUSED = {"none": message(1, "none: no such file").err, ".": message(3, ".: cannot read").err}
 READ_MISSING = b"rkt none\n"  # the line of ktutil that reads it
-OBJECT = unchecked("none", "no such file", 1)  # what ktcheck says of it in JSON
+OBJECT = unchecked("none", "no such file", 1)  # what ktcheck and ktmatch say of it in JSON
 
-OVER_FILES = ("klist", "show", "ktcheck", "ktremove", "ccremove")  # the commands that take several files, in turn
+OVER_FILES = ("klist", "show", "ktmatch", "ktcheck", "ktremove", "ccremove")  # those that take several files, in turn
 End = tuple[Outcome, dict[str, bytes]]  # a run's end, and the files after it
 
 
@@ -69,9 +69,9 @@ class Ends:
 
     @cached_property
     def places(self) -> range:
-        """Where its words name files that it takes one after the other, if there are several."""
+        """Where its words name files that it takes one after the other, if there are several, as ktmatch's is not."""
         words = self.run.words
-        first = min(map(words.index, self.names), default=len(words))
+        first = min(map(words.index, self.names), default=len(words)) + (self.command == "ktmatch")
         return range(first, len(words) if self.command in OVER_FILES and first < len(words) - 1 else first)
 
     def up_to(self, end: int) -> Stage:
@@ -127,7 +127,8 @@ class Ends:
         if self.command == "ktutil":
             return [end for _, end in self.failing_lines(("rkt", "wkt"), "read")]
         if self.places:
-            return [self.without(at, "cannot read") for at in self.places]
+            keytab = [(message(3, f"{self.names[0]}: cannot read"), run.files)] * (self.command == "ktmatch")
+            return keytab + [self.without(at, "cannot read") for at in self.places]
         if "-s" in words:
             return [(Outcome(3), run.files)]
         return [(outcome, run.files) for name in self.names

@@ -64,7 +64,7 @@ def check(report: Report, program: str) -> None:
                        (copies.of_long_name(), SPACE)):
         report.check(case.name, faults_of(case, *run_case(program, case, preexec_fn=limit(resource.RLIMIT_AS, most))))
     those = [*greatest.reads(), *greatest.edits(), *greatest.talks(), *greatest_caches.listings(),
-             *greatest_caches.reads(), *greatest_caches.edits()]
+             *greatest_caches.reads(), *greatest_caches.matches(), *greatest_caches.edits()]
     for case in those:
         report.check(f"{case.name}, on a stack of 256 KB", faults_in(program, case, resource.RLIMIT_STACK, STACK))
     for case in (*those, *copies.of_many()):

@@ -31,6 +31,7 @@ SEVERAL = {
     "klist -k pipe k link": listed(HOST_LINE, B_LINE), "klist --json link pipe": b"",
     "klist c pipe": cache_listings.listed(b"u@R", TICKET_LINE), "klist -l pipe": HEADING,
     "klist -l link c pipe": HEADING + line_of("c", True), "show pipe link": b"",
+    "ktmatch k pipe link": b"",
     "ktcheck pipe k": b"k: entries 2 free 0 holes 0\n",
     "ktcheck --json k pipe":
         b'{"file":"k","mode":"600","entries":2,"free":0,"holes":0,"findings":[],"fault":null,"status":0}\n'

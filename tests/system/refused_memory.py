@@ -28,7 +28,7 @@ OWN = f"/tmp/krb5cc_{os.getuid()}"  # the cache of a user whose environment name
 DEFAULTS = (
     ("klist", {"KRB5CCNAME": "FILE:c"}, "c"), ("klist -s", {"KRB5CCNAME": "c"}, "c"),
     ("klist -k", {"KRB5_KTNAME": "k"}, "k"), ("ktcheck -q", {"KRB5_KTNAME": "KCM:k"}, "KCM:k"), ("klist", {}, OWN),
-    ("klist -s", {}, OWN),
+    ("klist -s", {}, OWN), ("ktmatch k", {"KRB5CCNAME": "c"}, "c"),
 )
 
 

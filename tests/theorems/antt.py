@@ -22,8 +22,8 @@ IMPORTS = {source: names.split() for source, names in {
     "Rattle.krb_driver.specs.Loading": "result_map",
     "Rattle.samples.proofs.Given":
         "hex keytab cache found old listed cache_listed all details left cache_left",
-    "Rattle.samples.proofs.Runs": "words given those klist klist_overview klist_silent show ktfind ktcheck ktdiff "
-                                  "ktedit ccedit ktremove ccremove ktcopy ktutil hold",
+    "Rattle.samples.proofs.Runs": "words given those klist klist_overview klist_silent show ktfind ktmatch ktcheck "
+                                  "ktdiff ktedit ccedit ktremove ccremove ktcopy ktutil hold",
     "Rattle.samples.proofs.Unfolded": "on_literals",
 }.items()}
 TIME = re.compile(rb"(\d{4}-\d\d-\d\dT\d\d:\d\d:\d\dZ)")

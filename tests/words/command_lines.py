@@ -31,6 +31,7 @@ REFUSED: list[str | Line] = [
                     "-k new --age 3 k, -k old --age= k, -k old --age 00000000003 k, -k old -age 3 k",
         "ktcopy": "-n k, -p b@R k, -p= k t, -k New k t, -n=yes k t, -r k t, --expired k t, -k new --age 3 k t",
         "ktdiff": "-n k t, -p= k t, -e 65536 k t, --replace k t, k, -as c@R k t, -k new k t",
+        "ktmatch": "-p b@R/ k c, -p= k c, --service b@R k c, -p b@R, -k k c, --with-filename=yes k c, --want b@R k c",
         "ktcheck": "--older= k, -older 3 k, --want= k, --want @@ k, --with-filename=yes k",
         "ccremove": "-p b@R, -p b@R\\ c, -k old c, --v1-big --expired c, -expired c, --all-services=yes c, -a c",
         "hold": "-c k, -kx k, -k=yes k, --in-place=yes k, --json k, -V k, -k"}.items() for rest in lines_of(those)),
@@ -72,6 +73,8 @@ SAME: dict[str, str] = {
     "ktcopy -e aes128-cts-hmac-sha1-96 r t": "ktcopy --enctype aes128-cts-hmac-sha1-96 r t",
     "ktcopy -n -p b@R --as c@R r t": "ktcopy --as=c@R r -np b@R t, ktcopy --dry-run --principal b@R r --as c@R -- t",
     "ktdiff -p b@R -e 17 r t": "ktdiff --principal=b@R r --enctype aes128-cts t, ktdiff -p b@R -e17 --v1-big FILE:r t",
+    "ktmatch -q -p host/a@R k d": r"ktmatch --quiet k --principal=\host/a@R d, ktmatch -qphost/a@R -- FILE:k DIR::d",
+    "ktmatch -H --json k d o": "ktmatch k d --json o, ktmatch --json --with-filename --v1-big k -- d FILE:o",
     "ktcheck -q k m": "ktcheck --quiet k m", "ktcheck --json -q k m": "ktcheck --quiet --json -H k m",
     "ktcheck -H --older 1m --want b@R --want host/a@R m": r"ktcheck --older=60 m --with-filename --want=\host/a@R, "
                                                           "ktcheck -HH --want b@R --older 60s -- FILE:m",
@@ -84,7 +87,7 @@ SAME: dict[str, str] = {
 # What help names: the commands, each its own, and defaults.
 HELP = {**{f"{command} --help": f"krbfile {command}" for command in COMMANDS}, "--help": " ".join(COMMANDS),
         "klist -h": "KRB5CCNAME KRB5_KTNAME /etc/krb5.keytab /tmp/krb5cc_",
-        "ktcheck -h": "KRB5_KTNAME /etc/krb5.keytab"}
+        "ktcheck -h": "KRB5_KTNAME /etc/krb5.keytab", "ktmatch -h": "KRB5CCNAME /tmp/krb5cc_"}
 TOOLCHAIN = "logic dac8208d650f15bf"  # that the version names
 
 FILES = {"k": TWO, "t": keytab(B), "c": USUAL, "r": SAMPLES["rotated.keytab"], "m": SAMPLES["mixed.keytab"],

@@ -46,8 +46,9 @@ CASES = [
          stdin=KEY.upper().encode()),
     case("ccedit", "ccedit k", USUAL, ("", f"refused 5: {code(5, 'ccedit')}"), stdin=b"cut 2\ncut 2\n"),
     # Files of other programs are known by their first bytes, and `--replace` is hinted at without it alone.
-    *(case(f"{command}: {what}", f"{command} k", image, no_keytab((2, what), kind=kind))
-      for what, image in OTHERS for command, kind in (("klist -k", "keytab"), ("show", "cache"), ("klist", "cache"))),
+    *(case(f"{command}: {what}", f"{command} k", image, no_keytab((2, what), kind=kind), stdin=TWO)
+      for what, image in OTHERS for command, kind in (("klist -k", "keytab"), ("show", "cache"), ("klist", "cache"),
+                                                      ("ktmatch", "keytab"), ("ktmatch /dev/stdin", "cache"))),
     *(copy(options, keytab(B, replace(B, key=b"1" * 16)), target, ("", f"clash: {CLASH}{more}"), out=[f"clash {line}"])
       for options, target, more, line in (
           ("", TWO, f"\nkrbfile: {TO_REPLACE}", "47 53 kvno 3 etype 17 b@R"),

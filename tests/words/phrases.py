@@ -46,8 +46,8 @@ LINES = numbered("Faults of lines:")
 # Why a file is not a keytab, and why it is not a cache: each with its number.
 SHORT, LISTED_AS_KEYTAB, BEGINS_AS_CACHE, BEGINS_AS_NO_KEYTAB = NOT_KEYTABS = [
     row[::2] for row in listed("Files that are no keytabs:")]
-_, BEGINS_AS_KEYTAB, HELD_AS_KEYTAB, SHOWN_AS_NEITHER, BEGINS_AS_NO_CACHE, BAD_HEADER, BAD_DEFAULT = NOT_CACHES = [
-    row[::2] for row in listed("Files that are no caches:")]
+(_, BEGINS_AS_KEYTAB, HELD_AS_KEYTAB, MATCHED_AS_KEYTAB, SHOWN_AS_NEITHER, BEGINS_AS_NO_CACHE, BAD_HEADER,
+ BAD_DEFAULT) = NOT_CACHES = [row[::2] for row in listed("Files that are no caches:")]
 
 # What a file is instead, by its first bytes.
 OTHER_FILES = displayed("In place of the last two of 2 a file that is known by its first bytes is named:")
@@ -72,9 +72,12 @@ LIBRARY_IN_THE_WAY = "the name of its new file is taken"  # the library's phrase
 AFTERMATHS = {"restored": "the old bytes are back", **dict(zip(
     ("damaged", "lost change", "mixed"), re.findall(r"^\.Ar NAME : No (.*)$", PAGE, re.MULTILINE), strict=True))}
 
-# Findings of ktcheck, in the order in which they are explained, and the hints for some of them, in theirs.
-FINDINGS = {word: re.search(rf"^\.It Ic {word}\b.*\n(.*):$", PAGE, re.MULTILINE)[1] for word in (
-    "weak", "hidden", "same", "clash", "old", "mode", "size", "aged", "missing", "empty")}
+# Findings of ktcheck and lines of ktmatch, in the order in which they are explained, and the hints for some findings,
+# in theirs.
+FINDINGS, MATCHES = ({word: re.search(rf"^\.It Ic {word}\b.*\n(.*):$", PAGE, re.MULTILINE)[1] for word in words}
+                     for words in (
+    ("weak", "hidden", "same", "clash", "old", "mode", "size", "aged", "missing", "empty"),
+    ("user", "unread", "name", "kvno", "etype")))
 HINTS = dict(zip(("old", "weak", "same"), displayed("has hints for them, in this order:"), strict=True))
 
 CLASH = "TO has another key for this name, version and type"  # a clash of ktcopy

@@ -22,7 +22,8 @@ WILD_FILES = {"k": keytab(Entry((WILD, b"a")), B),
               "c": cache(replace(TICKET, server=Name((WILD, b"a"))), default=Name((WILD,)))}
 
 FILE = "k\x1b[2J\r\t\x7f\x9b31mé"  # the name of a file, which is UTF-8
-TEXTS = {"j": keytab(Entry((FILE.encode(),))), "d": cache(default=Name((FILE.encode(),)))}  # with such a name, for JSON
+TEXTS = {"j": keytab(Entry((FILE.encode(),))),  # with such a name, for JSON
+         "d": cache(replace(TICKET, server=Name((FILE.encode(),))), default=Name((FILE.encode(),)))}
 
 
 def named(*words: str, image: bytes | None = None) -> Undisturbed:
@@ -32,7 +33,8 @@ def named(*words: str, image: bytes | None = None) -> Undisturbed:
 
 RUNS = [
     undisturbed("klist --json -k j", **TEXTS), undisturbed("klist --json d", **TEXTS),
-    undisturbed("klist -l --json d", **TEXTS), undisturbed("ktcheck --json --older 1 j", **TEXTS),
+    undisturbed("klist -l --json d", **TEXTS), undisturbed("ktmatch --json j d", **TEXTS),
+    undisturbed("ktcheck --json --older 1 j", **TEXTS),
     undisturbed(("ktcheck", "--want", "\x1b@R", "k"), k=keytab(B)), undisturbed("ktutil", b"rkt k\x1b\n"),
     named("klist", "-k"), named("klist", "--json", "-k"), named("ktcheck"), named("ktcheck", "--json"),
     named("ktcheck", "-H", image=keytab(B) + b"\0"), named("ktremove", "-n", "-p", "b@R", FILE, image=keytab(B)),

@@ -6,7 +6,7 @@ use Rattle.krb_audit.specs.Selection.{needs_clock}
 use Rattle.krb_commands.specs.declared.action.Action.{Action}
 use Rattle.krb_commands.specs.declared.needs.LeftOut.{LeftOut}
 use Rattle.krb_commands.specs.declared.needs.Needs.{Needs}
-use Rattle.krb_commands.specs.declared.action.Action.TheVariants.{CheckTicket, Overview, Ccedit, Ccremove, Klist, Ktcheck, Ktcopy, Ktdiff, Ktedit, Ktfind, Ktremove, Ktutil, Show, Hold, HoldOnTerminal, Help}
+use Rattle.krb_commands.specs.declared.action.Action.TheVariants.{CheckTicket, Overview, Ccedit, Ccremove, Klist, Ktcheck, Ktcopy, Ktdiff, Ktedit, Ktfind, Ktmatch, Ktremove, Ktutil, Show, Hold, HoldOnTerminal, Help}
 use Rattle.krb_driver.specs.declared.command_line.mistake.WordFault.{WordFault}
 use Rattle.krb_driver.specs.declared.command_line.mistake.WordFault.TheVariants as word
 use Rattle.krb_driver.specs.declared.command_line.words.CommandName.{CommandName}
@@ -28,6 +28,7 @@ use Rattle.krb_readers.specs.Klist.{file_kind, list_mistake, list_options, Lists
 use Rattle.krb_readers.specs.Overview.{SurveysAll, overview_mistake}
 use Rattle.krb_readers.specs.declared.klist.ticket_check.TicketCheck.{TicketCheck}
 use Rattle.krb_readers.specs.Ktcheck.{SpellsCheck, check_mistake, ChecksAll}
+use Rattle.krb_readers.specs.Ktmatch.{MatchesAll, SpellsMatch, match_mistake}
 use Rattle.krb_readers.specs.Show.{ShowsAll, show_mistake, show_options}
 use Rattle.krb_editors.specs.Hold.{RunsHold, file_kind as held_kind, hold_kind, hold_mistake}
 use Rattle.krb_editors.specs.Ktedit.{ktedit_fairly, ktedit_plan}
@@ -109,6 +110,11 @@ abbrev pub AsksShow : Matched → Action → Type 0
 AsksShow words (Show options names) = (options ≡ show_options words) × AreFiles Either words names.items
 AsksShow words action = ⊥
 
+-- the action is the one that the words of ktmatch ask for
+abbrev pub AsksKtmatch : Matched → Action → Type 0
+AsksKtmatch words (Ktmatch options keytab names) = SpellsMatch words options × IsNamed Keytab (words.operand (codes "KEYTAB")) Word keytab × AreNamed Cache Word false (words.values (codes "CACHE")) names.items
+AsksKtmatch words action = ⊥
+
 -- a file is the keytab, or the cache, that the word of that operand names, and is to be saved in place if the words ask for that
 abbrev pub IsEdited : FileKind → Matched → List ℕ → FileName → Type 0
 IsEdited kind words operand file = IsNamed kind (words.operand operand) Word file × (file.in_place ≡ words.flag (codes "in-place"))
@@ -128,6 +134,7 @@ Asks name.Ktcopy words (Ktcopy options from to) = SpellsCopy words options × Is
 Asks name.Ktdiff words (Ktdiff options ours others) = SpellsDiff words options × IsNamed Keytab (words.operand (codes "A")) Word ours × IsNamed Keytab (words.operand (codes "B")) Word others
 Asks name.Ktcheck words action = AsksKtcheck words action
 Asks name.Show words action = AsksShow words action
+Asks name.Ktmatch words action = AsksKtmatch words action
 Asks name.Ccedit words (Ccedit file) = IsEdited Cache words (codes "FILE") file
 Asks name.Ccremove words (Ccremove options names) = SpellsTickets words options × AreChanged Cache words names.items
 Asks name.Ktutil words (Ktutil options) = (options.v1_order ≡ v1_order words) × (options.in_place ≡ words.flag (codes "in-place"))
@@ -147,6 +154,7 @@ line_mistake name.Ktcopy words = copy_mistake words
 line_mistake name.Ktdiff words = bad_criteria words
 line_mistake name.Ktcheck words = check_mistake words
 line_mistake name.Show words = show_mistake words
+line_mistake name.Ktmatch words = match_mistake words
 line_mistake name.Ccremove words = ticket_mistake words
 line_mistake name.Hold words = hold_mistake words
 line_mistake command words = None
@@ -194,6 +202,7 @@ needs (Overview json names) = surveys (not (length names.items == 0)) json
 needs (CheckTicket check file) = surveys (is_some file) false
 needs (Ktcheck options names) = record (reads names.items (left_out_of Keytab name.Ktcheck)) { clock = is_some options.older; json = options.json }
 needs (Show options names) = shows names.items options.default
+needs (Ktmatch options keytab names) = record (reads names.items (left_out_of Cache name.Ktmatch)) { json = options.json }
 needs (Ktedit order file) = edits file true
 needs (Ccedit file) = edits file true
 needs (Ktremove options names) = edits_all names.items (needs_clock options.selection.kvno)
@@ -261,6 +270,7 @@ module _ {F R W E : Type 0} (trait : Ghosts F) (old new : World F R W E) (status
   EndsAction (Ktedit order file) = RunsScript trait old new status (ktedit_plan order file) (ktedit_fairly order file) event_in
   EndsAction (Ktcheck options names) = RunsOn trait old new status (ChecksAll trait options now old new status) (files_or names.items default)
   EndsAction (Show options names) = RunsOn trait old new status (λ files. ShowsAll trait options.v1_order old new status files now) (files_or names.items default)
+  EndsAction (Ktmatch options keytab names) = RunsOn trait old new status (MatchesAll trait options keytab old new status) (files_or names.items default)
   EndsAction (Ktremove options names) = RemovesWith trait Keytab names.items old new status (ktremove_plan options) (needed_time options.selection.kvno now)
   EndsAction (Ktcopy options from to) = Runs trait (always (ktcopy_plan options from to)) any old new status
   EndsAction (Ktdiff options ours others) = Runs trait (always (ktdiff_plan options ours others)) any old new status

@@ -1,11 +1,12 @@
 //! The actions of command lines.
 
 ghost use Rattle.std.specs.Prelude.{◌≡◌, codes, map, IfErr, IfOk, None, OnOk};
-ghost use Rattle.krb_commands.specs.Actions.{AreNamed, Asks, AsksHold, AsksKlist, AsksKtcheck, AsksListing, AsksOverview, AsksShow, IsEdited, NamesFile, at_terminal, klist_mistake, line_mistake, source_of};
+ghost use Rattle.krb_commands.specs.Actions.{AreNamed, Asks, AsksHold, AsksKlist, AsksKtcheck, AsksKtmatch, AsksListing, AsksOverview, AsksShow, IsEdited, NamesFile, at_terminal, klist_mistake, line_mistake, source_of};
 ghost use Rattle.krb_driver.specs.FileNames.{IsNamed};
 ghost use Rattle.krb_driver.specs.declared.file_name.NameSource.TheVariants.{Word};
 ghost use Rattle.krb_readers.specs.Ktcheck.{check_mistake};
 ghost use Rattle.krb_readers.specs.Klist.{list_mistake};
+ghost use Rattle.krb_readers.specs.Ktmatch.{match_mistake};
 ghost use Rattle.krb_readers.specs.Overview.{overview_mistake};
 ghost use Rattle.krb_readers.specs.Show.{show_mistake};
 ghost use Rattle.krb_editors.specs.Hold.{hold_mistake};
@@ -19,8 +20,8 @@ use krb_editors::{
     hold_kind, remove_options, ticket_options,
 };
 use krb_readers::{
-    CheckOptions, FindOptions, KlistOptions, ShowOptions, TicketCheck, check_options, find_options,
-    klist_options, overview_json, show_options, ticket_check,
+    CheckOptions, FindOptions, KlistOptions, MatchOptions, ShowOptions, TicketCheck, check_options,
+    find_options, klist_options, match_options, overview_json, show_options, ticket_check,
 };
 use krb_wire::Order;
 use std::alloc::{AllocError, Global};
@@ -46,6 +47,8 @@ pub enum Action<'a> {
     Ktedit(Order, FileName<'a>),
     Ktcheck(CheckOptions<Global>, Vec<FileName<'a>>),
     Show(ShowOptions, Vec<FileName<'a>>),
+    /// A keytab with caches.
+    Ktmatch(MatchOptions<Global>, FileName<'a>, Vec<FileName<'a>>),
     Ktremove(RemoveOptions<Global>, Vec<FileName<'a>>),
     /// From the first keytab into the second.
     Ktcopy(CopyOptions<Global>, FileName<'a>, FileName<'a>),
@@ -221,6 +224,20 @@ fn parsed_show<'a, M: Matches<'a>>(alloc: Global, matches: &M) -> Result<Action<
     Ok(Action::Show(options, names))
 }
 
+// Returns the action for the words of ktmatch.
+fn parsed_ktmatch<'a, M: Matches<'a>>(
+    alloc: Global,
+    matches: &M,
+) -> Result<Action<'a>, WordFault<'a>>
+    ensures { Reads (match_mistake (M.matched matches.now)) (AsksKtmatch (M.matched matches.now)) result }
+{
+    let options = match_options(alloc, matches)?;
+    let keytab = file_of(matches, FileKind::Keytab, "KEYTAB");
+    let caches = matches.values("CACHE");
+    let names = files_of(alloc, FileKind::Cache, NameSource::Word, false, caches)?;
+    Ok(Action::Ktmatch(options, keytab, names))
+}
+
 // Returns the action for the words of hold.
 fn parsed_hold<'a, M: Matches<'a>>(matches: &M) -> Result<Action<'a>, WordFault<'a>>
     ensures { Reads (hold_mistake (M.matched matches.now)) (AsksHold (M.matched matches.now)) result }
@@ -263,6 +280,7 @@ fn parsed<'a, M: Matches<'a>>(
         )),
         CommandName::Ktcheck => parsed_ktcheck(alloc, matches),
         CommandName::Show => parsed_show(alloc, matches),
+        CommandName::Ktmatch => parsed_ktmatch(alloc, matches),
         CommandName::Ccedit => {
             let file = edited_file(matches, FileKind::Cache, "FILE");
             Ok(Action::Ccedit(file))

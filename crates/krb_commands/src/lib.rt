@@ -18,8 +18,8 @@ pub use krb_editors::{
 };
 pub use krb_ktutil::{Ktutil, Line, run_ktutil};
 pub use krb_readers::{
-    CheckOptions, FindOptions, KlistOptions, ListKind, ShowOptions, TicketCheck, run_klist,
-    run_ktcheck, run_ktfind, run_overview, run_show, run_ticket_check,
+    CheckOptions, FindOptions, KlistOptions, ListKind, MatchOptions, ShowOptions, TicketCheck,
+    run_klist, run_ktcheck, run_ktfind, run_ktmatch, run_overview, run_show, run_ticket_check,
 };
 pub use needs::{LeftOut, Needs, needs_of};
 pub use response::{DefaultName, respond};

@@ -170,6 +170,10 @@ fn action_needs(action: &Action<'_>) -> Needs
             ..reads_kind(names, FileKind::Keytab, CommandName::Ktcheck)
         },
         Action::Show(options, names) => shows(names, options.default),
+        Action::Ktmatch(options, _, names) => Needs {
+            json: options.json,
+            ..reads_kind(names, FileKind::Cache, CommandName::Ktmatch)
+        },
         Action::Ktedit(_, file) | Action::Ccedit(file) => Needs::edits(file, true),
         Action::Ktremove(options, names) => {
             edits_all(names, options.selection.kvno.needs_clock())

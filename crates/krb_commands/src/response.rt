@@ -12,7 +12,8 @@ use krb_editors::{
 use krb_files::Files;
 use krb_ktutil::run_ktutil;
 use krb_readers::{
-    TicketCheck, run_klist, run_ktcheck, run_ktfind, run_overview, run_show, run_ticket_check,
+    TicketCheck, run_klist, run_ktcheck, run_ktfind, run_ktmatch, run_overview, run_show,
+    run_ticket_check,
 };
 use std::alloc::Allocator;
 use std::io::{Read, Write};
@@ -96,6 +97,10 @@ pub fn respond<A: Allocator + Copy, F: Files, R: Read, W: Write, E: Write>(
         },
         Ok(Action::Show(options, names)) => match files_or(names, &default) {
             Ok(names) => run_show(alloc, *options, now, names, world),
+            Err(fault) => report_word_fault(fault, &mut world.err),
+        },
+        Ok(Action::Ktmatch(options, keytab, names)) => match files_or(names, &default) {
+            Ok(names) => run_ktmatch(alloc, options, *keytab, names, world),
             Err(fault) => report_word_fault(fault, &mut world.err),
         },
         Ok(Action::Ktremove(options, names)) => run_ktremove(alloc, options, now, names, world),

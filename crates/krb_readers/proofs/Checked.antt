@@ -1,16 +1,30 @@
 -- What ktcheck shows of a file, as JSON, and of one that gave no keytab.
-use Rattle.krb_readers.proofs.Cited.{◌≡◌, ℕ, List, [], cond, inr, refl, sym, ap, subst, Bool, true, false, IsFalse, Ok, Err, Appends, CheckParts, EndsAfter, ShowsPage, output_error, verdict_status, Appends-nil, AppendsPrefix-none, Watch, OutFault, Ends, check_json_text, Prints, found_verdict, is_silent, object_page, refused_effect}
+use Rattle.krb_readers.proofs.Cited.{◌≡◌, ℕ, List, [], cond, inr, refl, sym, ap, subst, Bool, true, false, IsFalse, Ok, Err, Appends, CheckParts, EndsAfter, ShowsPage, output_error, verdict_status, Appends-nil, AppendsPrefix-none, Watch, OutFault, Ends, check_json_text, Prints, found_verdict, is_silent, object_page, refused_effect, Displays, Page, Result, makes-end, FileName, Ghosts}
+use Rattle.krb_files.specs.Loading.{Answer}
+use Rattle.krb_driver.specs.Commands.{Effect, IsMade, MakesFairly, Tries, any, tries}
+use Rattle.krb_driver.specs.declared.error.RunError.{RunError}
 use Rattle.krb_findings.specs.declared.finding_set.FindingSet.{FindingSet}
 use Rattle.krb_driver.specs.declared.error.RunError.TheVariants.{NoMemory}
-use Rattle.krb_driver.specs.declared.file_name.FileName.{FileName}
 use Rattle.krb_driver.specs.declared.verdict.Verdict.{Verdict}
 use Rattle.krb_readers.specs.declared.ktcheck.words.CheckOptions.{CheckOptions}
 use Rattle.krb_readers.proofs.Listed.{ShowsPage-done, ShowsPage-failed, line-some}
 
--- a file that gave no keytab ends the run
-pub refused_ends : (json : Bool) (file : FileName) → EndsAfter file (λ why. Ends (refused_effect json file.name.now why))
+-- a file that gave no keytab, or no cache, ends the run
+refused_ends : (json : Bool) (file : FileName) → EndsAfter file (λ why. Ends (refused_effect json file.name.now why))
 refused_ends true file = record { spent = refl; unread = refl }
 refused_ends false file = record { spent = refl; unread = refl }
+
+-- what is due of what a file gave
+abbrev due : {X : Type 0} → Bool → List ℕ → (X → Page) → Result X RunError → Effect
+due json name page (Ok x) = Displays name (page x)
+due json name page (Err why) = refused_effect json name why
+
+-- a file was tried, and this was made of what it gave
+pub tried : {F X : Type 0} (trait : Ghosts F) (old : F) (file : FileName) (gives : Answer → Result X RunError) (given : Result X RunError) (json : Bool) (page : X → Page) (effect : Effect) (new : F)
+    → Tries trait old file gives given new → IsMade (due json file.name.now page given) effect
+    → MakesFairly trait old (tries file gives (λ x. Ends (Displays file.name.now (page x))) (λ why. Ends (refused_effect json file.name.now why))) any effect new
+tried trait old file gives (Ok x) json page effect new tries made = record { makes = tries _ _ effect new (refused_ends json file) (makes-end trait new _ effect made); fair = inr tt }
+tried trait old file gives (Err why) json page effect new tries made = record { makes = tries _ _ effect new (refused_ends json file) (makes-end trait new _ effect made); fair = inr tt }
 
 module _ {A : Type 0} (o : CheckOptions A) (explained : FindingSet) (file : List ℕ) (c : CheckParts) where
   -- the object of a file

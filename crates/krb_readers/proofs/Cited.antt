@@ -1,9 +1,10 @@
 -- The names that the proofs cite most, passed on from one place. Declares nothing.
-pub use Rattle.std.proofs.Common.{◌≡◌, ℕ, List, [], cond, inr, refl, sym, ap, subst, ◌∙◌, inl, drop, map, ◌∷◌, ◌++◌}
-pub use Rattle.std.specs.Prelude.{Bool, true, false, IsFalse, Ok, Err, fold, Result, codes}
+pub use Rattle.std.proofs.Common.{◌≡◌, ℕ, ◌+◌, ◌<◌, List, length, get_or, arith, [], cond, inr, refl, sym, ap, subst, ◌∙◌, inl, take, drop, map, ◌∷◌, ◌++◌}
+pub use Rattle.std.specs.Prelude.{Bool, true, false, IsFalse, Ok, Err, fold, Result, codes, ◌⊎◌, IsTrue}
+pub use Rattle.std.specs.List.{flat_map}
 pub use Rattle.std.specs.Io.KnownBytes.{Appends}
 pub use Rattle.krb_audit.specs.CheckUp.{CheckParts}
-pub use Rattle.krb_driver.specs.Commands.{EndsAfter, ShowsPage, Displays, Page}
+pub use Rattle.krb_driver.specs.Commands.{CommandPlan, EndsAfter, ShowsPage, Displays, Page}
 pub use Rattle.krb_driver.specs.RunErrors.{output_error, verdict_status, Ending}
 pub use Rattle.krb_files.proofs.Prefixes.{Appends-nil, AppendsPrefix-none, Appends-trans, AppendsPrefix-after, AppendsPrefix-all, AppendsPrefix-longer}
 pub use Rattle.krb_files.specs.Bytes.{Watch, AppendsPrefix, is_write_fault}
@@ -16,3 +17,10 @@ pub use Rattle.krb_ccache.specs.Store.{placed_credentials, PlacedCredential}
 pub use Rattle.krb_readers.specs.Klist.{SeesSoFar, listed_text, listing_page, gap}
 pub use Rattle.krb_driver.proofs.Making.{makes-end}
 pub use Rattle.std.proofs.lemmas.Result.{err_from_is_err_and}
+pub use Rattle.krb_readers.specs.Ktmatch.{MatchesEach, MatchesNext, first_state, line_of, plan_of, words_of, words_with}
+pub use Rattle.krb_readers.specs.declared.ktmatch.state.MatchState.{MatchState}
+pub use Rattle.krb_driver.specs.Several.{Round, first_round}
+pub use Rattle.krb_driver.specs.declared.file_name.FileName.{FileName}
+pub use Rattle.krb_files.specs.declared.files.Files.{Ghosts}
+pub use Rattle.krb_keytab.specs.Store.{KeytabState}
+pub use Rattle.std.proofs.lemmas.List.{drop_all, drop_more}

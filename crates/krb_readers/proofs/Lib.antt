@@ -1,4 +1,5 @@
 pub mod Cited
 pub mod Listed
 pub mod Checked
+pub mod Matched
 pub mod Options

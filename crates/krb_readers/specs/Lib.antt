@@ -2,6 +2,7 @@
 pub mod Klist
 pub mod Overview
 pub mod Ktfind
+pub mod Ktmatch
 pub mod Ktcheck
 pub mod Show
 

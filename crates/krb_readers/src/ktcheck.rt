@@ -1,6 +1,6 @@
 //! ktcheck: reports what an administrator should know about keytabs.
 
-mod page;
+pub(crate) mod page;
 pub(crate) mod words;
 
 ghost use Rattle.std.specs.Prelude.{◌≡◌};

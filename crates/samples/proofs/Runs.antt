@@ -1,5 +1,5 @@
 -- What a run of a command comes to if no call fails: what it prints, how it ends, and its files afterwards.
-use Rattle.samples.proofs.Cited.{◌≡◌, ℕ, ◌+◌, ◌<◌, ◌≤◌, ◌^◌, max, List, [], ◌∷◌, ◌++◌, codes, length, map, fold, Bool, true, false, nat_lt, Option, None, Some, option_and_then, unwrap_or, Result, Ok, Err, if◌then◌else◌, Vec, slice_get, filter_map, flat_map, list_any, arith, refl, name_of, most_bytes, event_in, Any, Newest, Well, CommandPlan, Effect, Fails, Displays, Saves, files_after, ccremove_plan, nat_eq, filter, ◌&&◌, Parts, FileMap, loaded, node_of, etype_in, number_in, seconds_in, none, RunEnd, NothingSelected, FileName, LikePrincipal, Word, Ending, ending_status, ending_text, is_missing, missing_error, is_none, seen_after, ktremove_plan, old_kvno, TalkDue, quiet_run, talk_due, result_map, frame, most_frame, held_in, received}
+use Rattle.samples.proofs.Cited.{◌≡◌, ℕ, ◌+◌, ◌<◌, ◌≤◌, ◌^◌, max, List, [], ◌∷◌, ◌++◌, codes, length, map, fold, Bool, true, false, nat_lt, Option, None, Some, option_and_then, option_map, unwrap_or, Result, Ok, Err, if◌then◌else◌, Vec, slice_get, filter_map, flat_map, list_any, arith, refl, name_of, most_bytes, event_in, Any, Newest, Well, CommandPlan, Effect, Fails, Displays, Saves, files_after, ccremove_plan, nat_eq, filter, ◌&&◌, Parts, FileMap, loaded, node_of, etype_in, number_in, seconds_in, none, RunEnd, NothingSelected, FileName, LikePrincipal, Word, Ending, ending_status, ending_text, is_missing, missing_error, is_none, seen_after, ktremove_plan, old_kvno, TalkDue, quiet_run, talk_due, result_map, frame, most_frame, held_in, received}
 use Rattle.std.specs.Str.{bytes_eq}
 use denote.RawPtr.{null_ptr}
 use lib.Dec.{lit<, lit≤}
@@ -16,10 +16,20 @@ use Rattle.krb_driver.specs.FileNames.{bare_name, is_other_type}
 use Rattle.krb_driver.specs.Mistakes.{Matched, first_value, printed_name, v1_order}
 use Rattle.krb_driver.specs.Commands.{opens}
 use Rattle.krb_driver.specs.Effects.{about, ending_of, saves_unless}
-use Rattle.krb_driver.specs.Loading.{result_map_err}
+use Rattle.krb_driver.specs.Loading.{result_map_err, whole_in}
+use Rattle.krb_driver.specs.RunErrors.{error_of_name}
 use Rattle.krb_readers.specs.Ktcheck.{aged_by, explained_after, findings, plan_of as check_plan}
 use Rattle.krb_readers.specs.declared.ktcheck.words.CheckOptions.{CheckOptions}
 use Rattle.krb_readers.specs.Klist.{file_kind, klist_plan, list_kind, list_options, printed_after, check_of, check_status}
+use Rattle.krb_keytab.specs.Store.{KeytabState}
+use Rattle.krb_match.specs.Names.{entry_text}
+use Rattle.krb_driver.specs.declared.error.RunError.TheVariants.{OtherType}
+use Rattle.krb_driver.specs.declared.verdict.Judged.{Judged}
+use Rattle.krb_driver.specs.EndingWords.{found_fault_words}
+use Rattle.krb_driver.specs.Runs.{near_words, words_if}
+use Rattle.krb_readers.specs.Ktmatch.{first_state, is_none as is_none_matched, match_plan, none_error, sought, state_after}
+use Rattle.krb_readers.specs.declared.ktmatch.state.MatchState.{MatchState}
+use Rattle.krb_readers.specs.declared.ktmatch.words.MatchOptions.{MatchOptions}
 use Rattle.krb_readers.specs.Overview.{heading, overview_plan}
 use Rattle.krb_readers.specs.Show.{show_plan}
 use Rattle.krb_readers.specs.Ktfind.{ktfind_plan}
@@ -219,6 +229,44 @@ ktcheck explains mode now files ws = checks (aged_by (check_options ws).older (S
   checks (Err why) = ends explains [] [] (Err why) files
   checks (Ok by) =
       over explains (λ explained file. check_plan (check_options ws) by (nat_lt 1 (length (ws.values (codes "FILE")))) explained file (Some mode)) explained_after (λ explained. ends explains [] [] (Ok Well)) none files (operands ws Keytab)
+
+-- the options of ktmatch
+abbrev match_options : Matched → MatchOptions (Unit {0})
+match_options ws = record {
+  v1_order = v1_order ws;
+  quiet = ws.flag (codes "quiet");
+  json = ws.flag (codes "json");
+  with_filename = ws.flag (codes "with-filename");
+  names = names_of (ws.values (codes "principal"));
+}
+
+-- the keytab that ktmatch is given
+abbrev matched_keytab : Matched → FileName
+matched_keytab ws = named false Keytab (ws.operand (codes "KEYTAB"))
+
+-- what is explained of a cache after its run
+abbrev explained_after_run : KeytabState → List ℕ → Option Judged → List ℕ
+explained_after_run k file None = []
+explained_after_run k file (Some found) = near_words (option_map (entry_text k) found.near) ++ found_fault_words file found.fault
+
+-- the tickets of caches are matched, one cache after the other, and at the end it is reported if there were none
+abbrev match_each : Bool → MatchOptions (Unit {0}) → List FileName → List ℕ → KeytabState → MatchState → FileMap → List FileName → Seen
+match_each explains o names keytab k s files [] =
+    let none = none_error (sought o) names in
+    if is_none_matched s then ends explains [] none.1 (Err none.0) files else ends explains [] [] (Ok Well) files
+match_each explains o names keytab k s files (file ∷ rest) =
+    let effect = follow files (match_plan o keytab (nat_lt 1 (length names)) (k, explains) s file) in
+    let first = follows explains files (Ends effect) in
+    let after = state_after s (record { ending = ending_of effect; status = first.status }) in
+    let words : Seen = record { out = []; err = words_if explains (explained_after_run k file.name.now after.last); status = 0; files = first.files } in
+    followed_by first (followed_by words (match_each explains o names keytab k after first.files rest))
+
+abbrev pub ktmatch : Bool → FileMap → Matched → Seen
+ktmatch explains files ws =
+    matches (if (matched_keytab ws).is_other_type then Err (OtherType (matched_keytab ws).kind (matched_keytab ws).source) else result_map_err (error_of_name (matched_keytab ws).source) (whole_in (v1_order ws) (loaded (files (matched_keytab ws).name.now) most_bytes))) where
+      matches : Result KeytabState RunError → Seen
+      matches (Err why) = ends explains [] (matched_keytab ws).name.now (Err why) files
+      matches (Ok k) = let names = map (named false Cache) (ws.values (codes "CACHE")) in match_each explains (match_options ws) names (matched_keytab ws).name.now k first_state files names
 
 abbrev pub ktedit : Bool → FileMap → List ℕ → Matched → Seen
 ktedit explains files script ws =

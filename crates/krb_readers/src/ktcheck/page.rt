@@ -145,8 +145,8 @@ fn show_object<A: Allocator + Copy, B: Allocator, W: Write>(
     Ok(verdict)
 }
 
-// Prints as JSON a file that gave no keytab, and returns the error.
-fn show_refused<A: Allocator + Copy, W: Write>(
+/// Prints as JSON a file that gave no keytab, or no cache, and returns the error.
+pub fn show_refused<A: Allocator + Copy, W: Write>(
     alloc: A,
     why: RunError,
     file: &str,

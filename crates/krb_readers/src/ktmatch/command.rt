@@ -1,0 +1,124 @@
+//! ktmatch over one cache: its lines, or its object.
+
+ghost use Rattle.std.specs.Prelude.{◌≡◌, IfOk};
+ghost use Rattle.krb_driver.specs.Commands.{Displays, IsMade, made_effect};
+ghost use Rattle.krb_readers.specs.Ktcheck.{refused_effect};
+ghost use Rattle.krb_readers.specs.Ktmatch.{match_page, page_due, page_of};
+
+use crate::ktmatch::page::{MatchObject, MatchPage};
+use crate::ktmatch::state::MatchState;
+use crate::ktmatch::verdict::{append_lines, judged_of};
+use crate::ktmatch::words::MatchOptions;
+use krb_ccache::Ccache;
+use krb_driver::{
+    FileError, FileName, Judged, Made, MakeResult, Output, OverFiles, RunEnd, RunError, Verdict,
+    label_of, try_matched,
+};
+use krb_files::Files;
+use krb_match::{MatchedTicket, Matcher};
+use krb_wire::NoMemory;
+use std::alloc::Allocator;
+
+/// The command ktmatch over caches, with the keytab of that name.
+#[derive(Clone, Copy)]
+pub struct MatchFiles<'f, A: Allocator, B: Allocator> {
+    pub options: &'f MatchOptions<B>,
+    pub keytab: &'f str,
+    pub matcher: &'f Matcher<'f, A>,
+    /// One of several caches.
+    pub are_several: bool,
+}
+
+// Returns what is shown of tickets, which a cache with that fault has: their lines, or what JSON is written of.
+fn page_of<'f, A: Allocator + Copy, B: Allocator>(
+    alloc: A,
+    command: &MatchFiles<'f, A, B>,
+    file: FileName<'_>,
+    tickets: Vec<MatchedTicket<A>, A>,
+    judged: Judged,
+) -> Result<MatchPage<'f, A>, NoMemory>
+    ensures { IfOk result (λ page. match_page page file.entry.name.now
+        ≡ page_of command.now.options.now command.now.keytab.now command.now.are_several file.entry.name.now tickets.items judged) }
+{
+    let (options, keytab) = (command.options, command.keytab);
+    let verdict = Verdict::Judged(judged);
+    let mut text = Vec::new(alloc);
+    if !options.json {
+        let label = label_of(alloc, options.with_filename || command.are_several, file)?;
+        append_lines(options.quiet, &label, &tickets, judged.fault, &mut text)?;
+        return Ok(MatchPage::Lines(Output { text, verdict }));
+    }
+    if options.quiet && !judged.is_wrong {
+        return Ok(MatchPage::Lines(Output { text, verdict }));
+    }
+    Ok(MatchPage::Object(MatchObject {
+        keytab,
+        tickets,
+        judged,
+    }))
+}
+
+// Returns what is shown of a cache.
+fn shown<'a, 'f, A: Allocator + Copy, B: Allocator>(
+    alloc: A,
+    command: &MatchFiles<'f, A, B>,
+    state: MatchState,
+    file: FileName<'a>,
+    cache: &Ccache<A>,
+) -> Result<Made<A, MatchPage<'f, A>>, FileError<'a>>
+    ensures { IsMade (Displays file.entry.name.now (page_due command.now.options.now command.now.keytab.now command.now.are_several command.now.matcher.now
+        state file.entry.name.now cache.now.state))
+        (made_effect match_page file.entry.name.now result) }
+{
+    let (options, matcher, several) = (command.options, command.matcher, command.are_several);
+    let matched = matcher.judge(alloc, &options.names, !state.is_named, cache)?;
+    let judged = judged_of(options, several, state.explained, &matched, cache.fault());
+    let page = page_of(alloc, command, file, matched.tickets, judged)?;
+    Ok(Made::Shows(page))
+}
+
+// Returns what is shown of a file that gave no cache: JSON has an object for it, unless memory ran out.
+fn refused<'a, 'f, A: Allocator>(
+    json: bool,
+    file: FileName<'a>,
+    why: RunError,
+) -> Result<Made<A, MatchPage<'f, A>>, FileError<'a>>
+    ensures { made_effect match_page file.entry.name.now result ≡ refused_effect json file.entry.name.now why }
+{
+    if json && !matches!(why, RunError::NoMemory) {
+        return Ok(Made::Shows(MatchPage::Refused(why)));
+    }
+    Err(FileError {
+        file: file.name,
+        error: why,
+    })
+}
+
+impl<'c, A: Allocator + Copy, B: Allocator> OverFiles<A> for MatchFiles<'c, A, B> {
+    ghost use Rattle.krb_readers.specs.Ktmatch.{plan_of, state_after};
+
+    type State = MatchState;
+
+    type Shown = MatchPage<'c, A>;
+
+    ghost plan = { λ c state file mode. plan_of c state file };
+
+    ghost after = { state_after };
+
+    fn make<'f, F: Files>(
+        &'f self,
+        alloc: A,
+        state: MatchState,
+        file: FileName<'f>,
+        files: &mut F,
+    ) -> MakeResult<'f, A, MatchPage<'c, A>> {
+        match try_matched(alloc, files, file) {
+            Ok(cache) => shown(alloc, self, state, file, &cache),
+            Err(why) => refused(self.options.json, file, why),
+        }
+    }
+
+    fn after(state: MatchState, end: RunEnd) -> MatchState {
+        state.after(end)
+    }
+}
