@@ -8,9 +8,9 @@ pub use Rattle.std.specs.Prelude.{option_map, codes, IsOk, IfOk, if◌then◌els
 pub use Rattle.krb_driver.specs.Commands.{ready_end, made_effect, ShowsEnd, MakesFairly, Takes, FairOver, Settles, EndsCommand, Keeps, Opens, fair_first, ShowsPage, GivesOf, of_file, Finishes, Makes, HoldsIf, GivesLoaded, CommandPlan, Effect, IsSpent, faults, Fails, Page, opens, Saves, saved_end, settled, Displays, IsMade, text, files_after, goes_on, tries, EndsAfter, Tries, effect_by, if_unread, ending_of}
 pub use Rattle.krb_driver.specs.Runs.{ErrorWatch, Writes, Run, ends_by, Shows, ReportsEnd, Adds, Underway, Sends, words_if, aftermath_text}
 pub use Rattle.krb_driver.specs.Hints.{quoted_byte, etype_option, operand_text, is_alike}
-pub use Rattle.krb_driver.specs.Loading.{keytab_in, keytab_refusal, or_refused, unless_refused, cache_refusal, fresh_in, cache_of}
+pub use Rattle.krb_driver.specs.Loading.{keytab_in, keytab_refusal, or_refused, unless_refused, fresh_in}
 pub use Rattle.krb_driver.specs.Messages.{piece_text, key_from, key_start, byte_text, pieces_text, hidden_word, may_be_key, quoted_word, pieces_before, shown_byte, has_key, message}
-pub use Rattle.krb_driver.specs.declared.verdict.FileKind.TheVariants.{Keytab, Cache}
+pub use Rattle.krb_driver.specs.declared.verdict.FileKind.TheVariants.{Keytab}
 pub use Rattle.krb_files.specs.Bytes.{Watch, AppendsPrefix}
 pub use Rattle.krb_files.specs.declared.files.Files.{Ghosts}
 pub use Rattle.krb_driver.specs.declared.verdict.FileKind.{FileKind}

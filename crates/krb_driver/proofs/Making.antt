@@ -129,9 +129,9 @@ of-refused kind refusal file (Ok k) = or-refused kind file k (refusal k)
 of-refused kind refusal file (Err error) = refl
 
 -- something was given, unless it has a refusal
-pub gives-unless : {F X : Type 0} (trait : Ghosts F) (old : F) (file : FileName) (gives : Answer → Result X RunError) (kind : FileKind) (refusal : X → Option Code) (given : Result X (List ℕ × RunError)) (new : F) → GivesOf trait old file gives given new
+pub gives_unless : {F X : Type 0} (trait : Ghosts F) (old : F) (file : FileName) (gives : Answer → Result X RunError) (kind : FileKind) (refusal : X → Option Code) (given : Result X (List ℕ × RunError)) (new : F) → GivesOf trait old file gives given new
     → GivesOf trait old file (λ answer. unless_refused (error.Refused kind) refusal (gives answer)) (unless_refused (λ code. (file.name.now, error.Refused kind code)) refusal given) new
-gives-unless trait old file gives kind refusal given new (inl o) = inl (record {
+gives_unless trait old file gives kind refusal given new (inl o) = inl (record {
   answer = o.answer;
   loads = o.loads;
   given_is = elim o.given_is [
@@ -142,7 +142,7 @@ gives-unless trait old file gives kind refusal given new (inl o) = inl (record {
   spent = ap (unless_refused (error.Refused kind) refusal) o.spent;
   read = o.read;
 })
-gives-unless trait old file gives kind refusal given new (inr o) = inr (o.0, o.1, ap (unless_refused (λ code. (file.name.now, error.Refused kind code)) refusal) o.2)
+gives_unless trait old file gives kind refusal given new (inr o) = inr (o.0, o.1, ap (unless_refused (λ code. (file.name.now, error.Refused kind code)) refusal) o.2)
 
 -- a file was held, or not
 pub makes_holds : {F : Type 0} (trait : Ghosts F) (old new : F) (held : Bool) (file : List ℕ) → HeldIf trait held file old new → HoldsIf trait old held file new

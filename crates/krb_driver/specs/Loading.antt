@@ -65,15 +65,16 @@ abbrev pub keytab_or_fresh : Order → Bool → Result (List ℕ) LoadFault → 
 keytab_or_fresh order in_place (Ok []) = Ok (empty V2 most_bytes)
 keytab_or_fresh order in_place answer = keytab_or_new order in_place answer
 
--- the cache that a load gives, or why there is none
-abbrev pub cache_of : Result (List ℕ) LoadFault → Result CacheState RunError
-cache_of (Ok image) = result_map_err (λ fault. NotACache (not_cache image fault)) (cache_result most_bytes image)
-cache_of (Err fault) = Err (load_error fault)
+-- the cache that a load gives, whose tickets are to be matched or not, or why there is none
+abbrev pub cache_in : Bool → Result (List ℕ) LoadFault → Result CacheState RunError
+cache_in matched (Ok image) = result_map_err (λ fault. if matched then NotACacheToMatch (not_cache image fault) else NotACache (not_cache image fault)) (cache_result most_bytes image)
+cache_in matched (Err fault) = Err (load_error fault)
 
--- the cache of a file whose tickets are to be matched, or why there is none
+abbrev pub cache_of : Result (List ℕ) LoadFault → Result CacheState RunError
+cache_of = cache_in false
+
 abbrev pub matched_in : Result (List ℕ) LoadFault → Result CacheState RunError
-matched_in (Ok image) = result_map_err (λ fault. NotACacheToMatch (not_cache image fault)) (cache_result most_bytes image)
-matched_in (Err fault) = Err (load_error fault)
+matched_in = cache_in true
 
 -- ---- what files answer
 
@@ -92,13 +93,15 @@ module _ {F : Type 0} (trait : Ghosts F) (old : F) (name : List ℕ) where
 
 -- ---- what opened files give
 
--- the keytab in a file, or the error: the file is missing or was not read, or it is no keytab
-abbrev pub keytab_in : Order → Answer → Result KeytabState RunError
-keytab_in order answer = result_map_err no_keytab_error (keytab_of order answer)
+-- the keytab in a file, which is to be listed or not, or the error: the file is missing or was not read, or it is no keytab
+abbrev pub keytab_for : Bool → Order → Answer → Result KeytabState RunError
+keytab_for listed order answer = result_map_err (list_error listed) (keytab_of order answer)
 
--- the keytab in a file to list: if it is none, the error has its own words
+abbrev pub keytab_in : Order → Answer → Result KeytabState RunError
+keytab_in = keytab_for false
+
 abbrev pub listed_in : Order → Answer → Result KeytabState RunError
-listed_in order answer = result_map_err list_error (keytab_of order answer)
+listed_in = keytab_for true
 
 -- the keytab in a file, where a missing one that is not to be saved in place gives an empty keytab
 abbrev pub keytab_or_empty : Order → Bool → Answer → Result KeytabState RunError

@@ -91,15 +91,13 @@ load_error load.TooLarge = error.FileTooLarge
 load_error load.Failed = error.FileNotRead
 load_error load.NoMemory = error.NoMemory
 
--- the error for a file that gave no keytab
-abbrev pub no_keytab_error : NoKeytab → RunError
-no_keytab_error (Load fault) = load_error fault
-no_keytab_error (Open why) = error.NotAKeytab why
+-- the error for a file that gave no keytab, which is to be listed or not
+abbrev pub list_error : Bool → NoKeytab → RunError
+list_error listed (Load fault) = load_error fault
+list_error listed (Open why) = if listed then error.NotAKeytabToList why else error.NotAKeytab why
 
--- the error for a file to list that gave no keytab
-abbrev pub list_error : NoKeytab → RunError
-list_error (Load fault) = load_error fault
-list_error (Open why) = error.NotAKeytabToList why
+abbrev pub no_keytab_error : NoKeytab → RunError
+no_keytab_error = list_error false
 
 -- the error for a file whose name comes from there
 abbrev pub error_of_name : NameSource → RunError → RunError

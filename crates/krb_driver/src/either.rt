@@ -71,6 +71,7 @@ fn give_either<'a, A: Allocator, F: Files>(
 }
 
 /// Opens the keytab or the cache of a file.
+#[tactic(auto, using(crate::proofs::Making::opens_by))]
 pub fn open_either<'a, A: Allocator, F: Files>(
     alloc: A,
     v1_order: Order,

@@ -88,13 +88,14 @@ impl RunError {
         }
     }
 
-    /// Returns the error for a file to list that gave no keytab.
-    pub fn of_listed(why: NoKeytab) -> RunError
-        ensures { result ≡ list_error why }
+    /// Returns the error for a file that gave no keytab, which is to be listed or not.
+    pub fn of_listed(listed: bool, why: NoKeytab) -> RunError
+        ensures { result ≡ list_error listed why }
     {
         match why {
             NoKeytab::Load(fault) => RunError::from(fault),
-            NoKeytab::Open(why) => RunError::NotAKeytabToList(why),
+            NoKeytab::Open(why) if listed => RunError::NotAKeytabToList(why),
+            NoKeytab::Open(why) => RunError::NotAKeytab(why),
         }
     }
 
@@ -164,10 +165,7 @@ impl From<NoKeytab> for RunError {
     ghost from_gives = { λ why given. given ≡ no_keytab_error why };
 
     fn from(why: NoKeytab) -> RunError {
-        match why {
-            NoKeytab::Load(fault) => RunError::from(fault),
-            NoKeytab::Open(why) => RunError::NotAKeytab(why),
-        }
+        RunError::of_listed(false, why)
     }
 }
 

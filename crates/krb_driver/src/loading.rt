@@ -7,7 +7,7 @@ ghost use Rattle.krb_keytab.specs.Store.{empty, image_of, open_result};
 ghost use Rattle.krb_wire.specs.declared.format.KtFormat.TheVariants.{V2};
 ghost use Rattle.krb_driver.specs.declared.loading.NoKeytab.TheVariants.{Load};
 ghost use Rattle.krb_files.specs.Loading.{most_bytes};
-ghost use Rattle.krb_driver.specs.Loading.{Gives, GivesOrRunsOut, cache_of, keytab_of, keytab_or_fresh, keytab_or_new, matched_in, new_unless, not_cache, not_keytab, result_map, result_map_err, GivesInput};
+ghost use Rattle.krb_driver.specs.Loading.{Gives, GivesOrRunsOut, cache_in, keytab_of, keytab_or_fresh, keytab_or_new, new_unless, not_cache, not_keytab, result_map, result_map_err, GivesInput};
 ghost use Rattle.krb_files.specs.Files.{answer_of};
 
 use crate::beginning::{Beginning, begins_as};
@@ -158,35 +158,21 @@ pub fn cache_of<A: Allocator>(image: Vec<u8, A>) -> Result<Ccache<A>, NotCache>
     }
 }
 
-/// Loads the cache of a file.
+/// Loads the cache of a file, whose tickets are to be matched or not.
 pub fn load_cache<A: Allocator, F: Files>(
     alloc: A,
+    matched: bool,
     files: &mut F,
     name: &str,
 ) -> Result<Ccache<A>, RunError>
     ensures { Gives F.Files files.old name.now
-        cache_of (result_map (λ k. k.state) result) files.new }
+        (cache_in matched) (result_map (λ k. k.state) result) files.new }
 {
     let image = files.load(alloc, name, USUAL_LIMIT)?;
     match cache_of(image) {
         Ok(cache) => Ok(cache),
+        Err(why) if matched => Err(RunError::NotACacheToMatch(why)),
         Err(why) => Err(RunError::NotACache(why)),
-    }
-}
-
-/// Loads the cache of a file whose tickets are to be matched.
-pub fn load_matched<A: Allocator, F: Files>(
-    alloc: A,
-    files: &mut F,
-    name: &str,
-) -> Result<Ccache<A>, RunError>
-    ensures { Gives F.Files files.old name.now
-        matched_in (result_map (λ k. k.state) result) files.new }
-{
-    let image = files.load(alloc, name, USUAL_LIMIT)?;
-    match cache_of(image) {
-        Ok(cache) => Ok(cache),
-        Err(why) => Err(RunError::NotACacheToMatch(why)),
     }
 }
 

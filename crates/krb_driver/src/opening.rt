@@ -1,16 +1,17 @@
 //! Opens the keytab or the cache of a file for a command, and holds files. Each error names the file.
+#![tactic(auto, using(crate::proofs::Making::opens_by))]
 
 ghost use Rattle.std.specs.Prelude.{◌≡◌, false, is_some, None, Some};
 ghost use Rattle.krb_driver.specs.declared.error.RunError.TheVariants.{OtherType, Refused};
 ghost use Rattle.krb_driver.specs.Commands.{GivesOf, Opens, Tries, opened, HoldsIf, can_hold};
-ghost use Rattle.krb_driver.specs.Loading.{cache_of, cache_refusal, fresh_in, keytab_in, keytab_or_empty, keytab_refusal, listed_in, matched_in, result_map, unless_refused, whole_in, whole_or_empty, writable_in};
+ghost use Rattle.krb_driver.specs.Loading.{cache_in, cache_of, cache_refusal, fresh_in, keytab_for, keytab_in, keytab_or_empty, keytab_refusal, listed_in, matched_in, result_map, unless_refused, whole_in, whole_or_empty, writable_in};
 ghost use Rattle.krb_files.specs.Loading.{TurnsHold};
 ghost use Rattle.krb_files.specs.Plan.{HeldIf};
 
 use crate::command::FileError;
 use crate::error::RunError;
 use crate::file_name::FileName;
-use crate::loading::{load_cache, load_keytab, load_matched, load_or_fresh, load_or_new};
+use crate::loading::{load_cache, load_keytab, load_or_fresh, load_or_new};
 use crate::verdict::FileKind;
 use krb_ccache::{Ccache, Version};
 use krb_files::Files;
@@ -30,21 +31,22 @@ pub fn other_type(file: FileName<'_>) -> FileError<'_>
     }
 }
 
-// Loads the keytab of a file.
+// Loads the keytab of a file, which is to be listed or not.
 fn give_keytab<'a, A: Allocator, F: Files>(
     alloc: A,
+    listed: bool,
     v1_order: Order,
     files: &mut F,
     file: FileName<'a>,
 ) -> Result<Keytab<A>, FileError<'a>>
-    ensures { GivesOf F.Files files.old file.entry (keytab_in v1_order) (opened (λ k. k.state) result) files.new }
+    ensures { GivesOf F.Files files.old file.entry (keytab_for listed v1_order) (opened (λ k. k.state) result) files.new }
 {
     if file.is_other_type {
         return Err(other_type(file));
     }
     match load_keytab(alloc, v1_order, files, file.name) {
         Ok(keytab) => Ok(keytab),
-        Err(why) => Err(FileError::of(file, RunError::from(why))),
+        Err(why) => Err(FileError::of(file, RunError::of_listed(listed, why))),
     }
 }
 
@@ -57,7 +59,7 @@ pub fn open_keytab<'a, A: Allocator, F: Files>(
 ) -> Result<Keytab<A>, FileError<'a>>
     ensures { Opens F.Files files.old file.entry (keytab_in v1_order) (opened (λ k. k.state) result) files.new }
 {
-    give_keytab(alloc, v1_order, files, file)
+    give_keytab(alloc, false, v1_order, files, file)
 }
 
 /// Tries to open the keytab of a file, for a command that goes on with the error too.
@@ -69,27 +71,9 @@ pub fn try_keytab<A: Allocator, F: Files>(
 ) -> Result<Keytab<A>, RunError>
     ensures { Tries F.Files files.old file.entry (keytab_in v1_order) (result_map (λ k. k.state) result) files.new }
 {
-    match give_keytab(alloc, v1_order, files, file) {
+    match give_keytab(alloc, false, v1_order, files, file) {
         Ok(keytab) => Ok(keytab),
         Err(met) => Err(met.error),
-    }
-}
-
-// Loads the keytab of a file to list.
-fn give_listed<'a, A: Allocator, F: Files>(
-    alloc: A,
-    v1_order: Order,
-    files: &mut F,
-    file: FileName<'a>,
-) -> Result<Keytab<A>, FileError<'a>>
-    ensures { GivesOf F.Files files.old file.entry (listed_in v1_order) (opened (λ k. k.state) result) files.new }
-{
-    if file.is_other_type {
-        return Err(other_type(file));
-    }
-    match load_keytab(alloc, v1_order, files, file.name) {
-        Ok(keytab) => Ok(keytab),
-        Err(why) => Err(FileError::of(file, RunError::of_listed(why))),
     }
 }
 
@@ -102,7 +86,7 @@ pub fn open_listed<'a, A: Allocator, F: Files>(
 ) -> Result<Keytab<A>, FileError<'a>>
     ensures { Opens F.Files files.old file.entry (listed_in v1_order) (opened (λ k. k.state) result) files.new }
 {
-    give_listed(alloc, v1_order, files, file)
+    give_keytab(alloc, true, v1_order, files, file)
 }
 
 /// Loads the keytab of a file, or returns an empty one of version 2 if the file is missing and not to be saved in place.
@@ -124,35 +108,19 @@ pub fn give_or_empty<'a, A: Allocator + Copy, F: Files>(
     }
 }
 
-/// Loads the cache of a file.
-pub fn give_cache<'a, A: Allocator, F: Files>(
+// Loads the cache of a file, whose tickets are to be matched or not.
+fn give_cache_for<'a, A: Allocator, F: Files>(
     alloc: A,
+    matched: bool,
     files: &mut F,
     file: FileName<'a>,
 ) -> Result<Ccache<A>, FileError<'a>>
-    ensures { GivesOf F.Files files.old file.entry cache_of (opened (λ k. k.state) result) files.new }
+    ensures { GivesOf F.Files files.old file.entry (cache_in matched) (opened (λ k. k.state) result) files.new }
 {
     if file.is_other_type {
         return Err(other_type(file));
     }
-    match load_cache(alloc, files, file.name) {
-        Ok(cache) => Ok(cache),
-        Err(error) => Err(FileError::of(file, error)),
-    }
-}
-
-// Loads the cache of a file whose tickets are to be matched.
-fn give_matched<'a, A: Allocator, F: Files>(
-    alloc: A,
-    files: &mut F,
-    file: FileName<'a>,
-) -> Result<Ccache<A>, FileError<'a>>
-    ensures { GivesOf F.Files files.old file.entry matched_in (opened (λ k. k.state) result) files.new }
-{
-    if file.is_other_type {
-        return Err(other_type(file));
-    }
-    match load_matched(alloc, files, file.name) {
+    match load_cache(alloc, matched, files, file.name) {
         Ok(cache) => Ok(cache),
         Err(error) => Err(FileError::of(file, error)),
     }
@@ -166,10 +134,21 @@ pub fn try_matched<A: Allocator, F: Files>(
 ) -> Result<Ccache<A>, RunError>
     ensures { Tries F.Files files.old file.entry matched_in (result_map (λ k. k.state) result) files.new }
 {
-    match give_matched(alloc, files, file) {
+    match give_cache_for(alloc, true, files, file) {
         Ok(cache) => Ok(cache),
         Err(met) => Err(met.error),
     }
+}
+
+/// Loads the cache of a file.
+pub fn give_cache<'a, A: Allocator, F: Files>(
+    alloc: A,
+    files: &mut F,
+    file: FileName<'a>,
+) -> Result<Ccache<A>, FileError<'a>>
+    ensures { GivesOf F.Files files.old file.entry cache_of (opened (λ k. k.state) result) files.new }
+{
+    give_cache_for(alloc, false, files, file)
 }
 
 /// Opens the cache of a file.
@@ -209,7 +188,7 @@ pub fn give_whole<'a, A: Allocator, F: Files>(
 ) -> Result<Keytab<A>, FileError<'a>>
     ensures { GivesOf F.Files files.old file.entry (whole_in v1_order) (opened (λ k. k.state) result) files.new }
 {
-    let given = give_keytab(alloc, v1_order, files, file);
+    let given = give_keytab(alloc, false, v1_order, files, file);
     whole(file, given)
 }
 
@@ -283,6 +262,7 @@ fn writable<'a, A: Allocator>(
 }
 
 /// Opens the cache of a file to change it. Refuses a damaged one, and one of version 3.
+#[tactic(auto, using(crate::proofs::Making::gives_unless, crate::proofs::Making::opens_by), unfolding(crate::specs::Loading::writable_in))]
 pub fn open_writable<'a, A: Allocator, F: Files>(
     alloc: A,
     files: &mut F,

@@ -1,5 +1,5 @@
 -- What removals from several files do.
-use Rattle.std.specs.Prelude.{◌≡◌, ◌⊎◌, ℕ, max, List, length, Bool, true, false, nat_lt, IsTrue, IsFalse, Result, Ok, Err}
+use Rattle.std.specs.Prelude.{◌≡◌, ◌⊎◌, ℕ, max, List, length, Bool, true, false, nat_lt, IsTrue, IsFalse, Option, Result, Ok, Err}
 use Rattle.krb_files.specs.declared.files.Files.{Ghosts}
 use Rattle.krb_driver.specs.declared.command.RunEnd.{RunEnd}
 use Rattle.krb_driver.specs.declared.command.World.{World}
@@ -51,13 +51,13 @@ module _ {F R W E : Type 0} (trait : Ghosts F) (old new : World F R W E) (status
   abbrev pub EndsRemovals : FileKind → FilesSeen → ℕ → Type 0
   EndsRemovals kind most worst = (IsTrue (is_none most) × ReportsNone kind worst) ⊎ (IsFalse (is_none most) × (new ≡ old) × (status ≡ worst))
 
-module _ {F R W E : Type 0} (trait : Ghosts F) (kind : FileKind) (names : List FileName) (old new : World F R W E) (status : ℕ) (plan : Bool → FileName → CommandPlan) where
-  -- what is asked for was removed from files, one after the other: `plan` is what is done with each
+module _ {F R W E : Type 0} (trait : Ghosts F) (kind : FileKind) (names : List FileName) (old new : World F R W E) (status : ℕ) (plan : FilesSeen → FileName → Option ℕ → CommandPlan) (after : FilesSeen → RunEnd → FilesSeen) where
+  -- what is asked for was removed from files, one after the other: `plan` is what is done with each, and `after` what is seen
   pub record Removes : Type 0 where
     pub most : FilesSeen
     pub between : World F R W E
     pub worst : ℕ
-    pub over : RunsOver trait (λ state file. always (plan (nat_lt 1 (length names)) file)) seen_after names (first_round seen.None old) (record { world = between; state = most; status = worst })
+    pub over : RunsOver trait plan after names (first_round seen.None old) (record { world = between; state = most; status = worst })
     pub ends : EndsRemovals trait between new status kind most worst
 
   -- if one of several is missing no file was held, loaded or saved, and the status is 1
@@ -67,13 +67,13 @@ module _ {F R W E : Type 0} (trait : Ghosts F) (kind : FileKind) (names : List F
 
 module _ {F R W E : Type 0} (trait : Ghosts F) (kind : FileKind) (names : List FileName) (old new : World F R W E) (status : ℕ) where
   -- several files were looked for first, and what is asked for was removed, unless one is missing
-  pub record LooksAndRemoves (plan : Bool → FileName → CommandPlan) : Type 0 where
+  pub record LooksAndRemoves (plan : FilesSeen → FileName → Option ℕ → CommandPlan) (after : FilesSeen → RunEnd → FilesSeen) : Type 0 where
     pub looked : World F R W E
     pub missing : Bool
     pub looks : LooksFirst trait names old looked missing
-    pub removes : RemovesUnless trait kind names looked new status plan missing
+    pub removes : RemovesUnless trait kind names looked new status plan after missing
 
   -- `LooksAndRemoves`, once the clock that it needs was read; else the run ends with that error
   abbrev pub RemovesWith : {X : Type 0} → (X → Bool → FileName → CommandPlan) → Result X RunError → Type 0
-  RemovesWith plan (Ok x) = LooksAndRemoves (plan x)
+  RemovesWith plan (Ok x) = LooksAndRemoves (λ seen file. always (plan x (nat_lt 1 (length names)) file)) seen_after
   RemovesWith plan (Err why) = EndsBefore trait old new status why

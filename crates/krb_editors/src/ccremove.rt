@@ -11,14 +11,13 @@ ghost use Rattle.krb_driver.specs.declared.verdict.FileKind.TheVariants.{Cache a
 ghost use Rattle.krb_editors.specs.Removing.{RemovesWith};
 ghost use Rattle.krb_driver.specs.Mistakes.{Reads};
 
-use crate::missing_files::is_one_missing;
-use crate::removing::{FilesSeen, end_removals};
+use crate::removing::{FilesSeen, run_removals};
 use krb_audit::{SelectedTickets, TicketCriteria, select_tickets};
 use krb_ccache::Ccache;
 use krb_driver::{
     CommandName, CommandWords, DRY_RUN, FileError, FileKind, FileName, IN_PLACE, Made, MakeResult,
     Matches, Output, OverFiles, Phrase, RunEnd, RunError, Verdict, Word, WordFault, World,
-    end_before, hold_if, label_of, open_writable, run_over, spelled_names, times_given,
+    end_before, hold_if, label_of, open_writable, spelled_names, times_given,
 };
 use krb_files::Files;
 use krb_walk::Refusal;
@@ -250,14 +249,10 @@ pub fn run_ccremove<A: Allocator + Copy, B: Allocator, F: Files, R: Read, W: Wri
         Ok(ended_by) => ended_by,
         Err(error) => return end_before(error, None, world),
     };
-    if is_one_missing(names, world) {
-        return 1;
-    }
     let command = RemoveTickets {
         options,
         ended_by,
         are_several: names.len() > 1,
     };
-    let ran = run_over(alloc, &command, FilesSeen::None, names, world);
-    end_removals(FileKind::Cache, ran, world)
+    run_removals(alloc, FileKind::Cache, &command, names, world)
 }

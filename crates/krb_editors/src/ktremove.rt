@@ -9,15 +9,14 @@ ghost use Rattle.krb_editors.specs.Removing.{RemovesWith};
 ghost use Rattle.krb_editors.specs.Ktremove.{SpellsKvno, SpellsRemoval, kvno_mistake, ktremove_plan, needed_time, none_verdict, odd_selection, remove_mistake, removes};
 ghost use Rattle.krb_driver.specs.Mistakes.{Reads, Refuses, Spells};
 
-use crate::missing_files::is_one_missing;
-use crate::removing::{FilesSeen, end_removals};
+use crate::removing::{FilesSeen, run_removals};
 use crate::selecting::{OF_ENCTYPE, OF_PRINCIPAL, spelled_kvno, spelled_selection};
 use krb_audit::{Selected, SelectedKvno, Selection, select};
 use krb_driver::{
     CommandName, CommandWords, DRY_RUN, FileError, FileKind, FileName, IN_PLACE, Made, MakeResult,
     Matches, Mistake, Output, OverFiles, Phrase, RunEnd, RunError, V1_BIG, Verdict, Word,
     WordFault, World, end_before, first_value, hold_if, label_of, open_whole, refuse_twice,
-    run_over, spelled_seconds, times_given, v1_order,
+    spelled_seconds, times_given, v1_order,
 };
 use krb_files::Files;
 use krb_keytab::Keytab;
@@ -251,14 +250,10 @@ pub fn run_ktremove<A: Allocator + Copy, B: Allocator, F: Files, R: Read, W: Wri
         Ok(time) => time,
         Err(error) => return end_before(error, None, world),
     };
-    if is_one_missing(names, world) {
-        return 1;
-    }
     let command = RemoveEntries {
         options,
         time,
         are_several: names.len() > 1,
     };
-    let ran = run_over(alloc, &command, FilesSeen::None, names, world);
-    end_removals(FileKind::Keytab, ran, world)
+    run_removals(alloc, FileKind::Keytab, &command, names, world)
 }

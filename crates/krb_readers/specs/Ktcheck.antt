@@ -25,8 +25,9 @@ use Rattle.krb_driver.specs.Loading.{keytab_in}
 use Rattle.krb_driver.specs.Mistakes.{ArePrintedNames, AreSpelledSeconds, Matched, MistakeParts, no_finding, bad_name, bad_seconds, first_mistake, first_value, twice, v1_order}
 use Rattle.krb_driver.specs.RunErrors.{Ending, error_status, said_of_file, verdict_status}
 use Rattle.krb_driver.specs.Several.{RunsOver, first_round, label_of}
-use Rattle.krb_readers.specs.declared.ktcheck.page.CheckPage.{CheckPage}
-use Rattle.krb_readers.specs.declared.ktcheck.page.CheckPage.TheVariants as page
+use Rattle.krb_readers.specs.declared.file_page.FilePage.{FilePage}
+use Rattle.krb_readers.specs.declared.file_page.FilePage.TheVariants as page
+use Rattle.krb_readers.specs.declared.ktcheck.page.CheckObject.{CheckObject}
 use Rattle.krb_readers.specs.declared.ktcheck.words.CheckOptions.{CheckOptions}
 
 -- ---- a file
@@ -80,11 +81,15 @@ abbrev pub refused_effect : Bool → List ℕ → RunError → Effect
 refused_effect json file NoMemory = Fails file NoMemory
 refused_effect json file why = if json then Displays file (refused_page file why) else Fails file why
 
--- the page that a file shows, in code
-abbrev pub check_page : {A B : Type 0} → CheckPage A B → List ℕ → Page
-check_page (page.Lines output) file = output_page output
-check_page (page.Object j) file = object_page j.options.now j.explained file (found j.options.now j.aged_by j.mode j.keytab.state)
-check_page (page.Refused why) file = refused_page file why
+-- the page that a file shows, in code, if `object` is that of its object
+abbrev pub file_page : {A O : Type 0} → (O → List ℕ → Page) → FilePage A O → List ℕ → Page
+file_page object (page.Lines output) file = output_page output
+file_page object (page.Object o) file = object o file
+file_page object (page.Refused why) file = refused_page file why
+
+-- that of a keytab
+abbrev pub check_page : {A B : Type 0} → CheckObject A B → List ℕ → Page
+check_page j file = object_page j.options.now j.explained file (found j.options.now j.aged_by j.mode j.keytab.state)
 
 -- a file is tried, and what is found about its keytab is shown
 abbrev pub plan_of : {A : Type 0} → CheckOptions A → Option ℕ → Bool → FindingSet → FileName → Option ℕ → CommandPlan

@@ -27,16 +27,15 @@ use Rattle.krb_driver.specs.declared.verdict.Judged.{Judged as Found}
 use Rattle.krb_driver.specs.declared.verdict.TicketsSought.{TicketsSought}
 use Rattle.krb_driver.specs.declared.verdict.TicketsSought.TheVariants.{Asked, OfServices}
 use Rattle.krb_driver.specs.declared.verdict.Verdict.TheVariants.{Judged}
-use Rattle.krb_driver.specs.Commands.{CommandPlan, Displays, Fails, Finishes, GivesOf, Page, output_page, text, tries}
+use Rattle.krb_driver.specs.Commands.{CommandPlan, Displays, Fails, Finishes, GivesOf, Page, text, tries}
 use Rattle.krb_driver.specs.Loading.{matched_in, whole_in}
 use Rattle.krb_driver.specs.Mistakes.{ArePrintedNames, Matched, MistakeParts, bad_name, first_mistake, v1_order}
 use Rattle.krb_driver.specs.RunErrors.{Ending, verdict_status}
 use Rattle.krb_driver.specs.Runs.{ErrorWatch, NamesNear, Reports}
 use Rattle.krb_driver.specs.Several.{Round, RunsOver, first_round, is_last, label_of}
-use Rattle.krb_readers.specs.Ktcheck.{refused_effect, refused_page}
+use Rattle.krb_readers.specs.Ktcheck.{refused_effect}
 use Rattle.krb_readers.specs.declared.ktmatch.command.MatchFiles.{MatchFiles}
-use Rattle.krb_readers.specs.declared.ktmatch.page.MatchPage.{MatchPage}
-use Rattle.krb_readers.specs.declared.ktmatch.page.MatchPage.TheVariants as page
+use Rattle.krb_readers.specs.declared.ktmatch.page.MatchObject.{MatchObject}
 use Rattle.krb_readers.specs.declared.ktmatch.state.MatchState.{MatchState}
 use Rattle.krb_readers.specs.declared.ktmatch.words.MatchOptions.{MatchOptions}
 
@@ -126,10 +125,8 @@ module _ {A : Type 0} (o : MatchOptions A) (keytab : List ℕ) (are_several : Bo
 abbrev pub plan_of : {A B : Type 0} → MatchFiles A B → MatchState → FileName → CommandPlan
 plan_of c = match_plan c.options.now c.keytab.now c.are_several c.matcher.now
 
-abbrev pub match_page : {A : Type 0} → MatchPage A → List ℕ → Page
-match_page (page.Lines output) file = output_page output
-match_page (page.Object j) file = object_page j.keytab.now j.judged file j.tickets.items
-match_page (page.Refused why) file = refused_page file why
+abbrev pub match_page : {A : Type 0} → MatchObject A → List ℕ → Page
+match_page j file = object_page j.keytab.now j.judged file j.tickets.items
 
 -- ---- from one cache to the next
 

@@ -5,9 +5,10 @@ pub(crate) mod words;
 
 ghost use Rattle.std.specs.Prelude.{◌≡◌};
 ghost use Rattle.krb_driver.specs.Commands.{Displays, IsMade, made_effect};
-ghost use Rattle.krb_readers.specs.Ktcheck.{ChecksAll, aged_by, check_page, explained_by, found, page_of, refused_effect};
+ghost use Rattle.krb_readers.specs.Ktcheck.{ChecksAll, aged_by, check_page, explained_by, file_page, found, page_of};
 
-use crate::ktcheck::page::{CheckObject, CheckPage, check_lines};
+use crate::file_page::{FilePage, refused};
+use crate::ktcheck::page::{CheckObject, check_lines};
 use crate::ktcheck::words::CheckOptions;
 use krb_driver::{
     FileError, FileName, Made, MakeResult, OverFiles, RunEnd, RunError, Verdict, World, end_before,
@@ -15,7 +16,6 @@ use krb_driver::{
 };
 use krb_files::Files;
 use krb_findings::FindingSet;
-use krb_keytab::Keytab;
 use std::alloc::Allocator;
 use std::io::{Read, Write};
 
@@ -34,32 +34,15 @@ fn shown<'a, 'c, A: Allocator + Copy, B: Allocator>(
     are_several: bool,
     file: FileName<'a>,
     object: CheckObject<'c, A, B>,
-) -> Result<Made<A, CheckPage<'c, A, B>>, FileError<'a>>
+) -> Result<Made<A, FilePage<A, CheckObject<'c, A, B>>>, FileError<'a>>
     ensures { IsMade (Displays file.entry.name.now (page_of object.entry.options.now are_several object.entry.explained file.entry.name.now
-        (found object.entry.options.now object.entry.aged_by object.entry.mode object.entry.keytab.state))) (made_effect check_page file.entry.name.now result) }
+        (found object.entry.options.now object.entry.aged_by object.entry.mode object.entry.keytab.state))) (made_effect (file_page check_page) file.entry.name.now result) }
 {
     if object.options.json {
-        return Ok(Made::Shows(CheckPage::Object(object)));
+        return Ok(Made::Shows(FilePage::Object(object)));
     }
     let lines = check_lines(alloc, &object, are_several, file)?;
-    Ok(Made::Shows(CheckPage::Lines(lines)))
-}
-
-// Returns what is shown of a file that gave no keytab: JSON has an object for it, unless memory ran out.
-fn refused<'a, 'c, A: Allocator, B: Allocator>(
-    json: bool,
-    file: FileName<'a>,
-    why: RunError,
-) -> Result<Made<A, CheckPage<'c, A, B>>, FileError<'a>>
-    ensures { made_effect check_page file.entry.name.now result ≡ refused_effect json file.entry.name.now why }
-{
-    if json && !matches!(why, RunError::NoMemory) {
-        return Ok(Made::Shows(CheckPage::Refused(why)));
-    }
-    Err(FileError {
-        file: file.name,
-        error: why,
-    })
+    Ok(Made::Shows(FilePage::Lines(lines)))
 }
 
 // Returns the findings that the end of a file's check explains.
@@ -78,7 +61,7 @@ impl<'c, A: Allocator + Copy, B: Allocator> OverFiles<A> for CheckFiles<'c, B> {
     /// The findings that were explained before.
     type State = FindingSet;
 
-    type Shown = CheckPage<'c, A, B>;
+    type Shown = FilePage<A, CheckObject<'c, A, B>>;
 
     ghost plan = { λ c. plan_of c.options.now c.aged_by c.are_several };
 
@@ -90,7 +73,7 @@ impl<'c, A: Allocator + Copy, B: Allocator> OverFiles<A> for CheckFiles<'c, B> {
         explained: FindingSet,
         file: FileName<'f>,
         files: &mut F,
-    ) -> MakeResult<'f, A, CheckPage<'c, A, B>> {
+    ) -> MakeResult<'f, A, FilePage<A, CheckObject<'c, A, B>>> {
         let keytab = match try_keytab(alloc, self.options.v1_order, files, file) {
             Ok(keytab) => keytab,
             Err(why) => return refused(self.options.json, file, why),

@@ -1,6 +1,7 @@
 //! The commands that read files: klist, ktfind, ktmatch, ktcheck and show.
 #![tactic(auto)]
 
+mod file_page;
 mod klist;
 mod ktcheck;
 mod ktfind;

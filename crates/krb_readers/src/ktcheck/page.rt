@@ -1,15 +1,15 @@
 //! What ktcheck shows of a file.
 
-ghost use Rattle.std.specs.Prelude.{◌≡◌, ◌++◌, IfOk, IsFalse, OnOk};
-ghost use Rattle.krb_driver.specs.Commands.{ShowsPage, output_page};
-ghost use Rattle.krb_readers.specs.Ktcheck.{found, found_verdict, is_silent, left_out, lines_of, lines_page, object_page, refused_page};
+ghost use Rattle.std.specs.Prelude.{◌≡◌, ◌++◌, IfOk, OnOk};
+ghost use Rattle.krb_driver.specs.Commands.{output_page};
+ghost use Rattle.krb_readers.specs.Ktcheck.{check_page, found, found_verdict, is_silent, left_out, lines_of, lines_page};
 
 use crate::ktcheck::words::CheckOptions;
 use krb_audit::{CheckUp, append_report, check_up};
-use krb_driver::{FileName, Findings, Output, RunError, Show, Verdict, append_said, label_of};
+use krb_driver::{FileName, Findings, Output, RunError, Show, Verdict, label_of};
 use krb_files::Watched;
 use krb_findings::FindingSet;
-use krb_json::{check_json, refused_json};
+use krb_json::check_json;
 use krb_keytab::Keytab;
 use krb_wire::NoMemory;
 use std::alloc::Allocator;
@@ -25,15 +25,6 @@ pub struct CheckObject<'f, A: Allocator, B: Allocator> {
     pub explained: FindingSet,
     pub mode: Option<u32>,
     pub keytab: Keytab<A>,
-}
-
-/// What ktcheck shows of a file.
-#[derive(Drop)]
-pub enum CheckPage<'f, A: Allocator, B: Allocator> {
-    Lines(Output<A>),
-    Object(CheckObject<'f, A, B>),
-    /// As JSON, a file that gave no keytab.
-    Refused(RunError),
 }
 
 // Returns the findings that are left out: with `-q` those that do not count for the status.
@@ -118,64 +109,29 @@ pub fn check_lines<A: Allocator + Copy, B: Allocator>(
     })
 }
 
-// Checks a keytab, and prints it as JSON, but with `-q` nothing if nothing is wrong.
-fn show_object<A: Allocator + Copy, B: Allocator, W: Write>(
-    alloc: A,
-    object: &CheckObject<'_, A, B>,
-    file: &str,
-    out: &mut Watched<W>,
-) -> Result<Verdict, RunError>
-    requires { IsFalse out.old.failed }
-    ensures { ShowsPage out.old out.new result (object_page object.now.options.now object.now.explained file.now
-        (found object.now.options.now object.now.aged_by object.now.mode object.now.keytab.state)) }
-{
-    let options = object.options;
-    let found = check_up(
-        alloc,
-        object.mode,
-        object.aged_by,
-        &options.wanted,
-        &object.keytab,
-    )?;
-    let verdict = verdict_of(options, object.explained, &found);
-    if is_silent(options, &found) {
-        return Ok(verdict);
-    }
-    check_json(alloc, file, &found, verdict.status(), out)?;
-    Ok(verdict)
-}
-
-/// Prints as JSON a file that gave no keytab, or no cache, and returns the error.
-pub fn show_refused<A: Allocator + Copy, W: Write>(
-    alloc: A,
-    why: RunError,
-    file: &str,
-    out: &mut Watched<W>,
-) -> Result<Verdict, RunError>
-    requires { IsFalse out.old.failed }
-    ensures { ShowsPage out.old out.new result (refused_page file.now why) }
-{
-    let mut said = Vec::new(alloc);
-    append_said(why, &mut said)?;
-    refused_json(alloc, file, &said, why.status(), out)?;
-    Err(why)
-}
-
-impl<A: Allocator + Copy, B: Allocator> Show<A> for CheckPage<'_, A, B> {
-    ghost use Rattle.krb_readers.specs.Ktcheck.{check_page};
-
+impl<A: Allocator + Copy, B: Allocator> Show<A> for CheckObject<'_, A, B> {
     ghost page = { check_page };
 
+    /// Checks the keytab, and prints it as JSON, but with `-q` nothing if nothing is wrong.
     fn show<W: Write>(
         &self,
         alloc: A,
         file: &str,
         out: &mut Watched<W>,
     ) -> Result<Verdict, RunError> {
-        match self {
-            CheckPage::Lines(output) => output.show(alloc, file, out),
-            CheckPage::Object(object) => show_object(alloc, object, file, out),
-            CheckPage::Refused(why) => show_refused(alloc, *why, file, out),
+        let options = self.options;
+        let found = check_up(
+            alloc,
+            self.mode,
+            self.aged_by,
+            &options.wanted,
+            &self.keytab,
+        )?;
+        let verdict = verdict_of(options, self.explained, &found);
+        if is_silent(options, &found) {
+            return Ok(verdict);
         }
+        check_json(alloc, file, &found, verdict.status(), out)?;
+        Ok(verdict)
     }
 }

@@ -2,10 +2,11 @@
 
 ghost use Rattle.std.specs.Prelude.{◌≡◌, IfOk};
 ghost use Rattle.krb_driver.specs.Commands.{Displays, IsMade, made_effect};
-ghost use Rattle.krb_readers.specs.Ktcheck.{refused_effect};
+ghost use Rattle.krb_readers.specs.Ktcheck.{file_page};
 ghost use Rattle.krb_readers.specs.Ktmatch.{match_page, page_due, page_of};
 
-use crate::ktmatch::page::{MatchObject, MatchPage};
+use crate::file_page::{FilePage, refused};
+use crate::ktmatch::page::MatchObject;
 use crate::ktmatch::state::MatchState;
 use crate::ktmatch::verdict::{append_lines, judged_of};
 use crate::ktmatch::words::MatchOptions;
@@ -36,8 +37,8 @@ fn page_of<'f, A: Allocator + Copy, B: Allocator>(
     file: FileName<'_>,
     tickets: Vec<MatchedTicket<A>, A>,
     judged: Judged,
-) -> Result<MatchPage<'f, A>, NoMemory>
-    ensures { IfOk result (λ page. match_page page file.entry.name.now
+) -> Result<FilePage<A, MatchObject<'f, A>>, NoMemory>
+    ensures { IfOk result (λ page. file_page match_page page file.entry.name.now
         ≡ page_of command.now.options.now command.now.keytab.now command.now.are_several file.entry.name.now tickets.items judged) }
 {
     let (options, keytab) = (command.options, command.keytab);
@@ -46,12 +47,12 @@ fn page_of<'f, A: Allocator + Copy, B: Allocator>(
     if !options.json {
         let label = label_of(alloc, options.with_filename || command.are_several, file)?;
         append_lines(options.quiet, &label, &tickets, judged.fault, &mut text)?;
-        return Ok(MatchPage::Lines(Output { text, verdict }));
+        return Ok(FilePage::Lines(Output { text, verdict }));
     }
     if options.quiet && !judged.is_wrong {
-        return Ok(MatchPage::Lines(Output { text, verdict }));
+        return Ok(FilePage::Lines(Output { text, verdict }));
     }
-    Ok(MatchPage::Object(MatchObject {
+    Ok(FilePage::Object(MatchObject {
         keytab,
         tickets,
         judged,
@@ -65,10 +66,10 @@ fn shown<'a, 'f, A: Allocator + Copy, B: Allocator>(
     state: MatchState,
     file: FileName<'a>,
     cache: &Ccache<A>,
-) -> Result<Made<A, MatchPage<'f, A>>, FileError<'a>>
+) -> Result<Made<A, FilePage<A, MatchObject<'f, A>>>, FileError<'a>>
     ensures { IsMade (Displays file.entry.name.now (page_due command.now.options.now command.now.keytab.now command.now.are_several command.now.matcher.now
         state file.entry.name.now cache.now.state))
-        (made_effect match_page file.entry.name.now result) }
+        (made_effect (file_page match_page) file.entry.name.now result) }
 {
     let (options, matcher, several) = (command.options, command.matcher, command.are_several);
     let matched = matcher.judge(alloc, &options.names, !state.is_named, cache)?;
@@ -77,29 +78,12 @@ fn shown<'a, 'f, A: Allocator + Copy, B: Allocator>(
     Ok(Made::Shows(page))
 }
 
-// Returns what is shown of a file that gave no cache: JSON has an object for it, unless memory ran out.
-fn refused<'a, 'f, A: Allocator>(
-    json: bool,
-    file: FileName<'a>,
-    why: RunError,
-) -> Result<Made<A, MatchPage<'f, A>>, FileError<'a>>
-    ensures { made_effect match_page file.entry.name.now result ≡ refused_effect json file.entry.name.now why }
-{
-    if json && !matches!(why, RunError::NoMemory) {
-        return Ok(Made::Shows(MatchPage::Refused(why)));
-    }
-    Err(FileError {
-        file: file.name,
-        error: why,
-    })
-}
-
 impl<'c, A: Allocator + Copy, B: Allocator> OverFiles<A> for MatchFiles<'c, A, B> {
     ghost use Rattle.krb_readers.specs.Ktmatch.{plan_of, state_after};
 
     type State = MatchState;
 
-    type Shown = MatchPage<'c, A>;
+    type Shown = FilePage<A, MatchObject<'c, A>>;
 
     ghost plan = { λ c state file mode. plan_of c state file };
 
@@ -111,11 +95,12 @@ impl<'c, A: Allocator + Copy, B: Allocator> OverFiles<A> for MatchFiles<'c, A, B
         state: MatchState,
         file: FileName<'f>,
         files: &mut F,
-    ) -> MakeResult<'f, A, MatchPage<'c, A>> {
-        match try_matched(alloc, files, file) {
-            Ok(cache) => shown(alloc, self, state, file, &cache),
-            Err(why) => refused(self.options.json, file, why),
-        }
+    ) -> MakeResult<'f, A, FilePage<A, MatchObject<'c, A>>> {
+        let cache = match try_matched(alloc, files, file) {
+            Ok(cache) => cache,
+            Err(why) => return refused(self.options.json, file, why),
+        };
+        shown(alloc, self, state, file, &cache)
     }
 
     fn after(state: MatchState, end: RunEnd) -> MatchState {

@@ -1,11 +1,6 @@
 //! What ktmatch shows of a cache.
 
-ghost use Rattle.std.specs.Prelude.{IsFalse};
-ghost use Rattle.krb_driver.specs.Commands.{ShowsPage};
-ghost use Rattle.krb_readers.specs.Ktmatch.{object_page};
-
-use crate::ktcheck::page::show_refused;
-use krb_driver::{Judged, Output, RunError, Show, Verdict};
+use krb_driver::{Judged, RunError, Show, Verdict};
 use krb_files::Watched;
 use krb_json::match_json;
 use krb_match::MatchedTicket;
@@ -20,33 +15,7 @@ pub struct MatchObject<'f, A: Allocator> {
     pub judged: Judged,
 }
 
-/// What ktmatch shows of a cache.
-#[derive(Drop)]
-pub enum MatchPage<'f, A: Allocator> {
-    Lines(Output<A>),
-    Object(MatchObject<'f, A>),
-    /// As JSON, a file that gave no cache.
-    Refused(RunError),
-}
-
-// Prints tickets as JSON.
-fn show_object<A: Allocator + Copy, W: Write>(
-    alloc: A,
-    object: &MatchObject<'_, A>,
-    file: &str,
-    out: &mut Watched<W>,
-) -> Result<Verdict, RunError>
-    requires { IsFalse out.old.failed }
-    ensures { ShowsPage out.old out.new result (object_page object.now.keytab.now object.now.judged file.now object.now.tickets.items) }
-{
-    let (keytab, tickets, fault) = (object.keytab, &object.tickets, object.judged.fault);
-    let verdict = Verdict::Judged(object.judged);
-    let status = verdict.status();
-    match_json(alloc, keytab, file, tickets, fault, status, out)?;
-    Ok(verdict)
-}
-
-impl<A: Allocator + Copy> Show<A> for MatchPage<'_, A> {
+impl<A: Allocator + Copy> Show<A> for MatchObject<'_, A> {
     ghost use Rattle.krb_readers.specs.Ktmatch.{match_page};
 
     ghost page = { match_page };
@@ -57,10 +26,10 @@ impl<A: Allocator + Copy> Show<A> for MatchPage<'_, A> {
         file: &str,
         out: &mut Watched<W>,
     ) -> Result<Verdict, RunError> {
-        match self {
-            MatchPage::Lines(output) => output.show(alloc, file, out),
-            MatchPage::Object(object) => show_object(alloc, object, file, out),
-            MatchPage::Refused(why) => show_refused(alloc, *why, file, out),
-        }
+        let (keytab, tickets, fault) = (self.keytab, &self.tickets, self.judged.fault);
+        let verdict = Verdict::Judged(self.judged);
+        let status = verdict.status();
+        match_json(alloc, keytab, file, tickets, fault, status, out)?;
+        Ok(verdict)
     }
 }

@@ -4,8 +4,8 @@ use Rattle.krb_readers.specs.Ktmatch.{page_due}
 use Rattle.krb_readers.proofs.Checked.{tried}
 use Rattle.krb_readers.proofs.ktmatch.command.MatchFilesOverFiles.make.Goals as goal
 
-pub returns-in-Ok : goal.returns-in-Ok
-returns-in-Ok g c =
+pub returns : goal.returns
+returns g c =
     let s = c.args.self.now in
     tried g.F.Files c.args.files.now c.args.file matched_in (Ok c.in-Ok.cache.state) s.options.now.json (page_due s.options.now s.keytab.now s.are_several s.matcher.now c.args.state c.args.file.name.now) _
     c.try_matched.new.files (rw c.in-Ok.is at c.try_matched.ensures) c.shown.ensures

@@ -1,16 +1,16 @@
-use Rattle.krb_editors.proofs.Cited.{refl, sym, ◌∙◌}
-use Rattle.krb_editors.proofs.ktremove.run_ktremove.Goals as goal
+use Rattle.krb_editors.proofs.Cited.{refl}
+use Rattle.krb_editors.proofs.removing.run_removals.Goals as goal
 
 pub returns-then-is_one_missing : goal.returns-then-is_one_missing
-returns-then-is_one_missing g c = rw (sym c.needed_time.ensures ∙ c.in-Ok.is) (record {
+returns-then-is_one_missing g c = record {
   looked = c.is_one_missing.new.world;
   missing = c.is_one_missing.result;
   looks = c.is_one_missing.ensures;
   removes = rw c.if-is_one_missing.true (refl, refl);
-})
+}
 
 pub returns : goal.returns
-returns g c = rw (sym c.needed_time.ensures ∙ c.in-Ok.is) (record {
+returns g c = record {
   looked = c.is_one_missing.new.world;
   missing = c.is_one_missing.result;
   looks = c.is_one_missing.ensures;
@@ -21,4 +21,4 @@ returns g c = rw (sym c.needed_time.ensures ∙ c.in-Ok.is) (record {
     over = c.run_over-ran.ensures;
     ends = c.end_removals.ensures;
   });
-})
+}

@@ -1,16 +1,16 @@
 use Rattle.krb_readers.proofs.Cited.{ℕ, List, ap, sym, subst, ◌∙◌, Ok, Err, err_from_is_err_and, CheckParts, check_json_text, verdict_status, Prints, found, found_verdict, is_silent}
 use Rattle.krb_readers.proofs.Checked.{object-failed, object-shown, object-silent, object-unshown}
-use Rattle.krb_readers.proofs.ktcheck.page.show_object.Goals as goal
+use Rattle.krb_readers.proofs.ktcheck.page.CheckObjectShow.show.Goals as goal
 
 pub returns-in_err-found : goal.returns-in_err-found
 returns-in_err-found g c =
-    let j = c.args.object.now in
+    let j = c.args.self.now in
     let p = err_from_is_err_and c.from_residual.result c.from_residual.ensures.1 in
     rw (p.1 ∙ ap Err p.2) (object-unshown j.options.now j.explained c.args.file.now (found j.options.now j.aged_by j.mode j.keytab.state) c.args.out.now c.requires)
 
 pub returns-then-is_silent : goal.returns-then-is_silent
 returns-then-is_silent g c =
-    let j = c.args.object.now in
+    let j = c.args.self.now in
     let due = found j.options.now j.aged_by j.mode j.keytab.state in
     let is = rw c.deref.ensures.value at c.in_ok-found.ensures in
     let silent = sym (c.is_silent.ensures ∙ ap (is_silent j.options.now) is) ∙ c.if-is_silent.true in
@@ -19,7 +19,7 @@ returns-then-is_silent g c =
 
 pub returns-in_err-check_json : goal.returns-in_err-check_json
 returns-in_err-check_json g c =
-    let j = c.args.object.now in
+    let j = c.args.self.now in
     let file = c.args.file.now in
     let due = found j.options.now j.aged_by j.mode j.keytab.state in
     let is = rw c.deref.ensures.value at c.in_ok-found.ensures in
@@ -32,7 +32,7 @@ returns-in_err-check_json g c =
 
 pub returns : goal.returns
 returns g c =
-    let j = c.args.object.now in
+    let j = c.args.self.now in
     let file = c.args.file.now in
     let due = found j.options.now j.aged_by j.mode j.keytab.state in
     let is = rw c.deref.ensures.value at c.in_ok-found.ensures in
