@@ -111,7 +111,7 @@ impl<A: Allocator> Piece<A> {
     {
         self.begin_object()?;
         self.number("place", ticket.place as u64)?;
-        self.text(Label::Name, &ticket.name)?;
+        self.text(Label::Name, ticket.name())?;
         self.ticket_numbers(ticket.encryption)?;
         self.judgement(&ticket.judgement)?;
         self.end_object()

@@ -1,7 +1,8 @@
 -- What is said of a ticket, by the number of its name.
 use Rattle.krb_match.proofs.Cited.{◌≡◌, ◌∙◌, sym, ap, ap₂, refl, arith, ℕ, Bool, true, false, List, [], ◌∷◌, length, ◌==◌, ◌||◌, ◌&&◌, Option, Some, None, option_map, option_or, option_map_or, filter, find, fold, eqb-true, Parts, have_same_name, PlacedEntry, newest_version, asked_version, entry_etype, etypes_of, fits, fitting, judged_among, named, no_opener, opener, opens_or, wanted, AreKeys, AreUnited, earlier, first_of, firsts_of, fitting_of, group_in, HasNumber, is_any, is_of, versions, with_entry, Fitting, Keys}
 use Rattle.krb_ccache.specs.declared.ticket.TicketEncryption.{TicketEncryption}
-use Rattle.krb_match.specs.declared.judgement.Judgement.TheVariants.{Kvno, Etype}
+use Rattle.krb_match.specs.declared.judgement.Judgement.{Judgement}
+use Rattle.krb_match.specs.declared.judgement.Judgement.TheVariants.{Kvno, Etype, Opens}
 use Rattle.std.specs.Prelude.{slice_get}
 use Rattle.krb_match.proofs.Noting.{and-true}
 use Rattle.krb_match.proofs.Finding.{find_filter, find_three}
@@ -41,6 +42,33 @@ judged_some : (e : TicketEncryption) (xs : List PlacedEntry) → (xs ≡ [] → 
 judged_some e [] some = absurd (some refl)
 judged_some e (x ∷ xs) some = refl
 
+-- the first entry of a name, a version and an enctype
+class_first : (p : Parts) (w n : ℕ) (xs : List PlacedEntry) → find (is_of p (Some w) (Some n)) xs ≡ find (λ x. x.1.version == w) (filter (λ x. x.1.enctype == n) (named p xs))
+class_first p w n xs =
+    let same : PlacedEntry → Bool = λ x. have_same_name p x.1.principal in
+    let e : PlacedEntry → Bool = λ x. x.1.enctype == n in
+    let v : PlacedEntry → Bool = λ x. x.1.version == w in
+    ap (λ (r : PlacedEntry → Bool). find r xs) (λ j x. swapped x j) ∙ sym (find_filter same (λ x. e x && v x) xs) ∙ sym (find_filter e v (named p xs))
+  where
+    swapped : (x : PlacedEntry) → is_of p (Some w) (Some n) x ≡ (have_same_name p x.1.principal && (x.1.enctype == n && x.1.version == w))
+    swapped x = grind arith
+
+opens_first : (why : Judgement) (o r : Option PlacedEntry) (place : ℕ) → option_map (λ x. x.0) o ≡ Some place → opens_or why (option_or o r) ≡ Opens place
+opens_first why None r place e = absurd cc
+opens_first why (Some x) r place e = grind (arith, e)
+
+opens_among : (e : TicketEncryption) (v n place : ℕ) (ys : List PlacedEntry) → asked_version e.kvno ≡ Some v → entry_etype e.etype ≡ Some n → option_map (λ x. x.0) (find (λ x. x.1.version == v) (filter (λ x. x.1.enctype == n) ys)) ≡ Some place → judged_among e ys ≡ Opens place
+opens_among e v n place [] asked etype is = absurd cc
+opens_among e v n place (y ∷ ys) asked etype is =
+    let why = no_opener (newest_version (y ∷ ys)) (etypes_of (fitting (asked_version e.kvno) (y ∷ ys))) in
+    let there = filter (λ x. x.1.enctype == n) (y ∷ ys) in
+    ap₂ (λ (a b : Option ℕ). opens_or why (opener a b (y ∷ ys))) asked etype
+    ∙ opens_first why (find (λ x. x.1.version == v) there) (find (λ x. fits (Some v) x.1.version) there) place is
+
+-- the first entry of a ticket's version and enctype opens it
+pub class_opens : (e : TicketEncryption) (p : Parts) (v n place : ℕ) (xs : List PlacedEntry) → asked_version e.kvno ≡ Some v → entry_etype e.etype ≡ Some n → option_map (λ x. x.0) (find (is_of p (Some v) (Some n)) xs) ≡ Some place → judged_among e (named p xs) ≡ Opens place
+class_opens e p v n place xs asked etype is = opens_among e v n place (named p xs) asked etype (ap (option_map (λ (x : PlacedEntry). x.0)) (sym (class_first p v n xs)) ∙ is)
+
 module _ {A : Type 0} (xs : List PlacedEntry) (p : Parts) (i : ℕ) (keys : Keys A) (h : AreKeys xs keys) (number : HasNumber keys p i) where
   abbrev same : PlacedEntry → Bool
   same = λ x. have_same_name p x.1.principal
@@ -78,14 +106,8 @@ module _ {A : Type 0} (xs : List PlacedEntry) (p : Parts) (i : ℕ) (keys : Keys
   -- the first entry of a version
   first_is : (w n : ℕ) → slice_get (firsts_of (group_in keys.groups (i, Some w, Some n))) 0 ≡ option_map first_of (find (λ x. x.1.version == w) (filter (λ x. x.1.enctype == n) (named p xs)))
   first_is w n =
-      let e : PlacedEntry → Bool = λ x. x.1.enctype == n in
-      let v : PlacedEntry → Bool = λ x. x.1.version == w in
       sym (any_first (firsts_of (group_in keys.groups (i, Some w, Some n)))) ∙ found_in (Some w) (Some n) (λ m. true)
-      ∙ ap (λ (r : PlacedEntry → Bool). option_map first_of (find r xs)) (λ j x. swapped x j)
-      ∙ ap (option_map first_of) (sym (find_filter same (λ x. e x && v x) xs) ∙ sym (find_filter e v (named p xs)))
-    where
-      swapped : (x : PlacedEntry) → (is_of p (Some w) (Some n) x && true) ≡ (same x && (x.1.enctype == n && x.1.version == w))
-      swapped x = grind arith
+      ∙ ap (λ (r : PlacedEntry → Bool). option_map first_of (find r xs)) (λ j x. and-true (is_of p (Some w) (Some n) x) j) ∙ ap (option_map first_of) (class_first p w n xs)
 
   pub opener_is : (asked : Option ℕ) (n w : ℕ) (o r : Option (ℕ × ℕ)) → w ≡ wanted asked (filter (λ x. x.1.enctype == n) (named p xs)) → o ≡ slice_get (firsts_of (group_in keys.groups (i, Some w, Some n))) 0
       → r ≡ option_map first_of (find (λ x. true) (fitting_of asked (Some n) (named p xs))) → option_or o r ≡ option_map first_of (opener asked (Some n) (named p xs))

@@ -1,13 +1,12 @@
 -- What is known while the tickets of a cache are looked at.
-use Rattle.std.specs.Prelude.{◌≡◌, ⊤, ℕ, List, ◌++◌, map, option_map, is_some, Bool, true, false, not, ◌==◌, length, if◌then◌else◌, Option, None, Some}
+use Rattle.std.specs.Prelude.{◌≡◌, ⊤, ℕ, List, ◌++◌, map, option_map, is_some, Bool, true, false, not, ◌==◌, length, if◌then◌else◌, Option, None, Some, IfSome}
 use Rattle.std.specs.Option.{option_or}
 use Rattle.krb_wire.specs.Reading.{principal_parts}
 use Rattle.krb_wire.specs.declared.principal.Principal.{Principal}
-use Rattle.krb_keytab.specs.Find.{PlacedEntry}
-use Rattle.krb_ccache.specs.Credential.{CredParts}
+use Rattle.krb_keytab.specs.Find.{PlacedEntry, placed_entries}
+use Rattle.krb_keytab.specs.Store.{KeytabState}
 use Rattle.krb_ccache.specs.Store.{PlacedCredential}
 use Rattle.krb_audit.specs.Selection.{AsksFor}
-use Rattle.krb_match.specs.declared.judgement.Judgement.{Judgement}
 use Rattle.krb_match.specs.declared.looking.Judge.{Judge}
 use Rattle.krb_match.specs.declared.keys.Keys.{Keys}
 use Rattle.krb_match.specs.declared.near.NearNames.{NearNames}
@@ -15,7 +14,7 @@ use Rattle.krb_match.specs.Match.{name_of}
 use Rattle.krb_match.specs.Names.{bare_key, folded_key}
 use Rattle.krb_match.specs.Near.{AreNear}
 use Rattle.krb_match.specs.Table.{AreKeys}
-use Rattle.krb_match.specs.Tickets.{MatchedParts, first_near, is_looked_at, matched, said}
+use Rattle.krb_match.specs.Tickets.{MatchedParts, first_near, is_looked_at, matched}
 
 -- the names of entries can be found, if near ones are wanted
 abbrev pub IsNear : {A : Type 0} → List PlacedEntry → Option (NearNames A) → Type 0
@@ -23,21 +22,22 @@ IsNear xs None = ⊤
 IsNear xs (Some near) = AreNear (map (λ x. folded_key x.1.principal) xs) (map (λ x. bare_key x.1.principal) xs) near
 
 -- tickets are judged by entries, names are asked for, and near ones are found if they are wanted
-pub record JudgesBy {A : Type 0} (texts : List (List ℕ)) (wanted : Bool) (xs : List PlacedEntry) (names : List (List ℕ)) (asks : Bool) (keys : Keys A) (near : Option (NearNames A)) : Type 0 where
+pub record JudgesBy {A : Type 0} (texts : List (List ℕ)) (wanted : Bool) (xs : List PlacedEntry) (names : List (List ℕ)) (asks : Bool) (entries : KeytabState) (keys : Option (Keys A)) (near : Option (NearNames A)) : Type 0 where
   pub names_are : AsksFor texts names
   pub asks_is : asks ≡ not (length texts == 0)
-  pub keys_are : AreKeys xs keys
+  pub entries_are : placed_entries entries ≡ xs
+  pub keys_are : IfSome keys (AreKeys xs)
   pub near_is : IsNear xs near
   pub wanted_is : is_some near ≡ wanted
 
 -- a judge has those parts
 abbrev pub IsJudge : {A : Type 0} → List (List ℕ) → Bool → List PlacedEntry → Judge A → Type 0
-IsJudge texts wanted xs judge = JudgesBy texts wanted xs judge.names.names judge.asks judge.keys.now (option_map (λ names. names.now) judge.near)
+IsJudge texts wanted xs judge = JudgesBy texts wanted xs judge.names.names judge.asks judge.classes.now judge.keys (option_map (λ names. names.now) judge.near)
 
--- the name of a ticket that is looked at, and what is said of it, or nothing
-abbrev pub IsSaid : {A : Type 0} → List (List ℕ) → List PlacedEntry → CredParts → Option (Principal A × Judgement) → Type 0
-IsSaid texts xs c None = is_looked_at texts xs c ≡ false
-IsSaid texts xs c (Some (p, j)) = (is_looked_at texts xs c ≡ true) × (principal_parts p ≡ name_of c) × (j ≡ said xs c)
+-- a ticket that is looked at, and its name, or nothing
+abbrev pub IsSaid : {A : Type 0} → List (List ℕ) → List PlacedEntry → PlacedCredential → Option (Principal A × MatchedParts) → Type 0
+IsSaid texts xs c None = is_looked_at texts xs c.1 ≡ false
+IsSaid texts xs c (Some (p, t)) = (is_looked_at texts xs c.1 ≡ true) × (principal_parts p ≡ name_of c.1) × (t ≡ matched xs c)
 
 -- the tickets so far, with the rest of those looked at, are all of those
 pub record AreMatched (wanted : Bool) (xs : List PlacedEntry) (rest all : List PlacedCredential) (tickets : List MatchedParts) (near : Option ℕ) : Type 0 where

@@ -92,6 +92,16 @@ IsAdded key is_first x old new = (k : GroupKey) → group_in new k ≡ (if same_
 abbrev pub IsNoted : {A : Type 0} → ℕ → PlacedEntry → BTreeMap GroupKey (Group A) → BTreeMap GroupKey (Group A) → Type 0
 IsNoted number x old new = (k : GroupKey) → group_in new k ≡ (if number == k.0 && (is_any k.1 x.1.version && is_any k.2 x.1.enctype) then grown (is_first_in None (group_in old (k.0, k.1, Some x.1.enctype))) (group_in old k) x else group_in old k)
 
+-- the number of a name, a version and an enctype
+abbrev pub ClassKey : Type 0
+ClassKey = ℕ × ℕ × ℕ
+
+abbrev pub class_cmp : ClassKey → ClassKey → Ordering
+class_cmp k l = ordering_then (ordering_then (nat_cmp k.0 l.0) (nat_cmp k.1 l.1)) (nat_cmp k.2 l.2)
+
+abbrev pub same_class : ClassKey → ClassKey → Bool
+same_class k l = (k.0 == l.0 && k.1 == l.1) && k.2 == l.2
+
 -- what a look-up of a name among names gave: its number is its place, of which there is one
 pub record IsNumbered (names : List (List ℕ)) (p : Parts) (number : Option ℕ) : Type 0 where
   pub alone : IsAlone (name_key p) names number
@@ -100,6 +110,10 @@ pub record IsNumbered (names : List (List ℕ)) (p : Parts) (number : Option ℕ
 -- the map has the groups of the entries so far
 abbrev pub AreNoted : {A : Type 0} → List (List ℕ) → List PlacedEntry → BTreeMap GroupKey (Group A) → Type 0
 AreNoted names before groups = (p : Parts) (i : ℕ) (version etype : Option ℕ) → IsNumbered names p (Some i) → group_in groups (i, version, etype) ≡ fold with_entry None (filter (is_of p version etype) before)
+
+-- the map has the place of the first of the entries so far that have a name, a version and an enctype
+abbrev pub ArePlaced : List (List ℕ) → List PlacedEntry → BTreeMap ClassKey ℕ → Type 0
+ArePlaced names before places = (p : Parts) (i v e : ℕ) → IsNumbered names p (Some i) → get class_cmp places (i, v, e) ≡ option_map (λ x. x.0) (find (is_of p (Some v) (Some e)) before)
 
 -- ---- what fits a ticket
 
@@ -127,6 +141,11 @@ fitting_of asked etype xs = fitting asked (filter (λ x. is_any etype x.1.enctyp
 -- a name has that number
 abbrev pub HasNumber : {A : Type 0} → Keys A → Parts → ℕ → Type 0
 HasNumber keys p i = IsNumbered keys.names p (Some i)
+
+-- the names and the places are those of entries
+pub record AreClasses (xs : List PlacedEntry) (names : List (List ℕ)) (places : BTreeMap ClassKey ℕ) : Type 0 where
+  pub known : (p : Parts) → is_among names (name_key p) ≡ has_name p xs
+  pub placed : ArePlaced names xs places
 
 -- the places of entries ascend
 abbrev pub Rises : List PlacedEntry → Type 0

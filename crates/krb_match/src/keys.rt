@@ -5,18 +5,18 @@ ghost use Rattle.std.specs.Vec.{vec_items};
 ghost use Rattle.krb_wire.specs.Spelling.{Parts};
 ghost use Rattle.krb_keytab.specs.Find.{PlacedEntry, placed_entries};
 ghost use Rattle.krb_names.specs.Set.{is_among};
-ghost use Rattle.krb_match.specs.Match.{asked_version, entry_etype, has_name, judged, judged_among, named, opener, ticket_of, wanted};
-ghost use Rattle.krb_match.specs.Names.{entry_key};
+ghost use Rattle.krb_match.specs.Match.{asked_version, entry_etype, judged_among, named, opener, wanted};
+ghost use Rattle.krb_match.specs.Names.{entry_key, name_key};
 ghost use Rattle.krb_match.specs.Table.{AreKeys, AreNoted, AreUnited, HasNumber, IsNumbered, first_of, fitting_of, versions};
 
 use crate::fitting::Fitting;
 use crate::group::{Groups, firsts, newest, note};
 use crate::judgement::Judgement;
 use crate::names::write_key;
-use krb_ccache::{CredView, TicketEncryption, ticket_encryption};
+use krb_ccache::TicketEncryption;
 use krb_keytab::{EntryView, Keytab};
 use krb_names::NameSet;
-use krb_wire::{Name, NoMemory};
+use krb_wire::NoMemory;
 use std::alloc::Allocator;
 use std::collections::BTreeMap;
 
@@ -28,8 +28,8 @@ pub struct Keys<'k, A: Allocator> {
     groups: Groups<A>,
 }
 
-// Returns the version that a ticket asks for, unless that is left out or 0.
-fn asked_version(kvno: Option<u32>) -> Option<u32>
+/// Returns the version that a ticket asks for, unless that is left out or 0.
+pub fn asked_version(kvno: Option<u32>) -> Option<u32>
     ensures { result ≡ asked_version kvno }
 {
     match kvno {
@@ -38,8 +38,8 @@ fn asked_version(kvno: Option<u32>) -> Option<u32>
     }
 }
 
-// Returns the enctype of entries that a ticket asks for, if it can be one.
-fn entry_etype(encryption: TicketEncryption) -> Option<u32>
+/// Returns the enctype of entries that a ticket asks for, if it can be one.
+pub fn entry_etype(encryption: TicketEncryption) -> Option<u32>
     ensures { result ≡ entry_etype encryption.etype }
 {
     u32::try_from(encryption.etype).ok()
@@ -55,16 +55,11 @@ fn versions(asked: Option<u32>) -> (Option<u32>, Option<u32>, Option<u32>)
     }
 }
 
-// Returns the number of a name, which is written over `scratch` first.
-fn number_of<N: Name, A: Allocator>(
-    names: &NameSet<'_, A>,
-    name: &N,
-    scratch: &mut Vec<u8, A>,
-) -> Result<Option<usize>, NoMemory>
-    ensures { IfOk result (IsNumbered names.now (N.parts name.now)) }
+/// Returns the number of the name with that key. Takes log n comparisons.
+pub fn number_of<A: Allocator>(names: &NameSet<'_, A>, key: &[u8]) -> Option<usize>
+    ensures { (p : Parts) → key.now ≡ name_key p → IsNumbered names.now p result }
 {
-    write_key(name, scratch)?;
-    Ok(names.place(scratch))
+    names.place(key)
 }
 
 impl<'k, A: Allocator + Copy> Keys<'k, A> {
@@ -81,7 +76,8 @@ impl<'k, A: Allocator + Copy> Keys<'k, A> {
             → AreNoted self.old.names before self.old.groups
             → OnOk result (AreNoted self.new.names (before ++ (place, entry.now) ∷ []) self.new.groups) }
     {
-        match number_of(&self.names, entry.principal(), scratch)? {
+        write_key(entry.principal(), scratch)?;
+        match number_of(&self.names, scratch) {
             Some(number) => note(&mut self.groups, alloc, number, place, entry),
             None => Ok(()),
         }
@@ -160,32 +156,14 @@ impl<'k, A: Allocator + Copy> Keys<'k, A> {
         Judgement::Etype(etypes)
     }
 
-    /// Returns whether an entry has a name, which is written over `scratch` first. Takes log n comparisons.
-    pub fn has<N: Name>(&self, name: &N, scratch: &mut Vec<u8, A>) -> Result<bool, NoMemory>
-        ensures { (xs : List PlacedEntry) → AreKeys xs self.now → IfOk result (λ b. b ≡ has_name (N.parts name.now) xs) }
+    /// Returns what is said of a ticket under the name with that key. Takes log n comparisons.
+    pub fn judge(&self, encryption: TicketEncryption, key: &[u8]) -> Judgement
+        ensures { (xs : List PlacedEntry) (p : Parts) → AreKeys xs self.now → key.now ≡ name_key p
+            → result ≡ judged_among encryption (named p xs) }
     {
-        Ok(number_of(&self.names, name, scratch)?.is_some())
-    }
-
-    /// Returns what is said of a ticket under a name, which is written over `scratch` first. Takes log n comparisons.
-    pub fn judge<N: Name>(
-        &self,
-        ticket: &CredView<'_>,
-        name: &N,
-        scratch: &mut Vec<u8, A>,
-    ) -> Result<Judgement, NoMemory>
-        ensures { (xs : List PlacedEntry) → AreKeys xs self.now
-            → IfOk result (λ j. j ≡ judged xs (ticket_of ticket.now (N.parts name.now))) }
-    {
-        if ticket.is_skey() != 0 {
-            return Ok(Judgement::User);
-        }
-        let Some(encryption) = ticket_encryption(ticket.ticket()) else {
-            return Ok(Judgement::Unread);
-        };
-        match number_of(&self.names, name, scratch)? {
-            Some(number) => Ok(self.judge_number(number, encryption)),
-            None => Ok(Judgement::Name),
+        match number_of(&self.names, key) {
+            Some(number) => self.judge_number(number, encryption),
+            None => Judgement::Name,
         }
     }
 }

@@ -1,6 +1,7 @@
 //! Which tickets the entries of a keytab open.
 #![tactic(auto)]
 
+mod classes;
 mod fitting;
 mod group;
 mod judgement;

@@ -104,6 +104,6 @@ pub fn append_matched<A: Allocator, B: Allocator>(
     append_labelled(b" ", ticket.place, out)?;
     append_details(ticket.encryption, &ticket.judgement, out)?;
     append_byte(b' ', out)?;
-    append(&ticket.name, out)?;
+    append(ticket.name(), out)?;
     append_byte(b'\n', out)
 }

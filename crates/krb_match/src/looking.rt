@@ -4,20 +4,25 @@ ghost use Rattle.std.specs.Prelude.{◌≡◌, ◌∷◌, ℕ, Bool, IfOk, OnOk,
 ghost use Rattle.std.specs.Option.{option_or};
 ghost use Rattle.std.specs.Vec.{vec_items};
 ghost use Rattle.krb_wire.specs.Reading.{principal_parts};
-ghost use Rattle.krb_keytab.specs.Find.{PlacedEntry};
+ghost use Rattle.krb_wire.specs.Spelling.{Parts};
+ghost use Rattle.krb_keytab.specs.Find.{PlacedEntry, placed_entries};
+ghost use Rattle.krb_ccache.specs.Ticket.{ticket_encryption};
 ghost use Rattle.krb_ccache.specs.Store.{PlacedCredential, placed_credentials};
 ghost use Rattle.krb_match.specs.Looking.{AreMatched, IsJudge, IsNear, IsSaid};
-ghost use Rattle.krb_match.specs.Match.{name_of};
+ghost use Rattle.krb_match.specs.Match.{judged, judged_among, name_of, named, ticket_of};
+ghost use Rattle.krb_match.specs.Names.{name_key};
 ghost use Rattle.krb_match.specs.Table.{AreKeys};
-ghost use Rattle.krb_match.specs.Tickets.{first_near, is_asked, looked_at, matched, near_by, said};
+ghost use Rattle.krb_match.specs.Tickets.{first_near, is_asked, looked_at, matched, near_by};
 
+use crate::classes::Classes;
 use crate::judgement::Judgement;
 use crate::keys::Keys;
+use crate::names::key_over;
 use crate::near::NearNames;
 use crate::ticket::{MatchedTicket, name_of};
 use krb_audit::{NameFilter, is_of_gssproxy, is_service};
-use krb_ccache::{Ccache, CredView, is_config, ticket_encryption};
-use krb_wire::{NoMemory, Principal, write_name};
+use krb_ccache::{Ccache, CredView, TicketEncryption, is_config, ticket_encryption};
+use krb_wire::{NoMemory, Principal};
 use std::alloc::Allocator;
 
 /// The tickets of a cache that are looked at, and the number of the entry that is named after them.
@@ -27,54 +32,125 @@ pub struct Matched<A: Allocator> {
     pub near: Option<usize>,
 }
 
-// What judges tickets: the keys, near names if they are wanted, the names asked for, and whether there are any. `scratch` is
-// space for a name.
+// What judges tickets: the entries, by all that tickets ask for once that was needed, near names if they are wanted, the
+// names asked for, and whether there are any. `scratch` is space for a name.
 #[derive(Drop)]
 struct Judge<'m, 'k, 't, A: Allocator> {
     alloc: A,
-    keys: &'m Keys<'k, A>,
+    classes: &'m Classes<'k, A>,
+    keys: Option<Keys<'k, A>>,
     near: Option<&'m NearNames<'k, A>>,
     names: NameFilter<'t, A>,
     asks: bool,
     scratch: Vec<u8, A>,
 }
 
-impl<A: Allocator + Copy> Judge<'_, '_, '_, A> {
-    // Returns whether a ticket of that name is asked for.
-    fn asks_for(&mut self, ticket: &CredView<'_>, name: &Principal<A>) -> Result<bool, NoMemory>
+impl<'k, A: Allocator + Copy> Judge<'_, 'k, '_, A> {
+    // Returns whether a ticket of that name, which has that key, is asked for.
+    fn asks_for(
+        &mut self,
+        ticket: &CredView<'_>,
+        name: &Principal<A>,
+        key: &[u8],
+    ) -> Result<bool, NoMemory>
         ensures kept { (texts : List (List ℕ)) (wanted : Bool) (xs : List PlacedEntry) → IsJudge texts wanted xs self.old
             → IsJudge texts wanted xs self.new }
         ensures asked { (texts : List (List ℕ)) (wanted : Bool) (xs : List PlacedEntry) → IsJudge texts wanted xs self.old
-            → principal_parts name.now ≡ name_of ticket.now → IfOk result (λ b. b ≡ is_asked texts xs ticket.now) }
+            → principal_parts name.now ≡ name_of ticket.now → key.now ≡ name_key (principal_parts name.now)
+            → IfOk result (λ b. b ≡ is_asked texts xs ticket.now) }
     {
         if self.asks {
             return Ok(self.names.passes(ticket.server())? || self.names.passes(name)?);
         }
-        if is_service(name) {
-            return Ok(true);
-        }
-        self.keys.has(name, &mut self.scratch)
+        Ok(is_service(name) || self.classes.has(key))
     }
 
-    // Returns the name of a ticket that is looked at, and what is said of it.
+    // Returns the entries by all that tickets ask for.
+    fn take_keys(&mut self) -> Result<Keys<'k, A>, NoMemory>
+        ensures kept { (texts : List (List ℕ)) (wanted : Bool) (xs : List PlacedEntry) → IsJudge texts wanted xs self.old
+            → IsJudge texts wanted xs self.new }
+        ensures keys { (texts : List (List ℕ)) (wanted : Bool) (xs : List PlacedEntry) → IsJudge texts wanted xs self.old
+            → IfOk result (AreKeys xs) }
+    {
+        match self.keys.take() {
+            Some(keys) => Ok(keys),
+            None => self.classes.all(self.alloc),
+        }
+    }
+
+    // Returns what is said of a ticket that can be read, under the name with that key.
+    fn judge_read(
+        &mut self,
+        encryption: TicketEncryption,
+        key: &[u8],
+    ) -> Result<Judgement, NoMemory>
+        ensures kept { (texts : List (List ℕ)) (wanted : Bool) (xs : List PlacedEntry) → IsJudge texts wanted xs self.old
+            → IsJudge texts wanted xs self.new }
+        ensures said { (texts : List (List ℕ)) (wanted : Bool) (xs : List PlacedEntry) (p : Parts)
+            → IsJudge texts wanted xs self.old → key.now ≡ name_key p
+            → IfOk result (λ j. j ≡ judged_among encryption (named p xs)) }
+    {
+        if let Some(place) = self.classes.opener(encryption, key) {
+            return Ok(Judgement::Opens(place));
+        }
+        let keys = self.take_keys()?;
+        let judgement = keys.judge(encryption, key);
+        self.keys = Some(keys);
+        Ok(judgement)
+    }
+
+    // Returns what is said of a ticket with that encryption, under the name with that key.
     fn judge(
         &mut self,
         ticket: &CredView<'_>,
-    ) -> Result<Option<(Principal<A>, Judgement)>, NoMemory>
+        encryption: Option<TicketEncryption>,
+        key: &[u8],
+    ) -> Result<Judgement, NoMemory>
+        ensures kept { (texts : List (List ℕ)) (wanted : Bool) (xs : List PlacedEntry) → IsJudge texts wanted xs self.old
+            → IsJudge texts wanted xs self.new }
+        ensures said { (texts : List (List ℕ)) (wanted : Bool) (xs : List PlacedEntry) (p : Parts)
+            → IsJudge texts wanted xs self.old → key.now ≡ name_key p → encryption ≡ ticket_encryption ticket.now.ticket
+            → IfOk result (λ j. j ≡ judged xs (ticket_of ticket.now p)) }
+    {
+        if ticket.is_skey() != 0 {
+            return Ok(Judgement::User);
+        }
+        match encryption {
+            Some(encryption) => self.judge_read(encryption, key),
+            None => Ok(Judgement::Unread),
+        }
+    }
+
+    // Returns a ticket that is looked at, and its name.
+    fn looked_at(
+        &mut self,
+        place: u32,
+        ticket: &CredView<'_>,
+    ) -> Result<Option<(Principal<A>, MatchedTicket<A>)>, NoMemory>
         ensures kept { (texts : List (List ℕ)) (wanted : Bool) (xs : List PlacedEntry) → IsJudge texts wanted xs self.old
             → IsJudge texts wanted xs self.new }
         ensures said { (texts : List (List ℕ)) (wanted : Bool) (xs : List PlacedEntry) → IsJudge texts wanted xs self.old
-            → IfOk result (IsSaid texts xs ticket.now) }
+            → IfOk result (IsSaid texts xs (place, ticket.now)) }
     {
         if is_config(ticket) || is_of_gssproxy(ticket.server()) {
             return Ok(None);
         }
         let name = name_of(self.alloc, ticket)?;
-        if !self.asks_for(ticket, &name)? {
+        let key = key_over(self.alloc, &name, &mut self.scratch)?;
+        if !self.asks_for(ticket, &name, &key)? {
             return Ok(None);
         }
-        let judgement = self.keys.judge(ticket, &name, &mut self.scratch)?;
-        Ok(Some((name, judgement)))
+        let encryption = ticket_encryption(ticket.ticket());
+        let judgement = self.judge(ticket, encryption, &key)?;
+        Ok(Some((
+            name,
+            MatchedTicket {
+                place,
+                encryption,
+                key,
+                judgement,
+            },
+        )))
     }
 
     // Returns the number of the entry that is named once there is a ticket of that name: the one before, or an entry whose
@@ -95,27 +171,6 @@ impl<A: Allocator + Copy> Judge<'_, '_, '_, A> {
     }
 }
 
-// Returns a ticket of that name, with what is said of it.
-fn ticket_of<A: Allocator + Copy>(
-    alloc: A,
-    place: u32,
-    ticket: &CredView<'_>,
-    name: &Principal<A>,
-    judgement: Judgement,
-) -> Result<MatchedTicket<A>, NoMemory>
-    ensures { (xs : List PlacedEntry) → principal_parts name.now ≡ name_of ticket.now
-        → judgement ≡ said xs ticket.now → IfOk result (λ t. t ≡ matched xs (place, ticket.now)) }
-{
-    let mut text = Vec::new(alloc);
-    write_name(name, &mut text)?;
-    Ok(MatchedTicket {
-        place,
-        encryption: ticket_encryption(ticket.ticket()),
-        name: text,
-        judgement,
-    })
-}
-
 impl<A: Allocator + Copy> Matched<A> {
     // Adds the next credential if it is looked at.
     fn consider(
@@ -131,10 +186,9 @@ impl<A: Allocator + Copy> Matched<A> {
             → AreMatched wanted xs (looked_at texts xs ((place, ticket.now) ∷ rest)) all self.old.tickets.items self.old.near
             → OnOk result (AreMatched wanted xs (looked_at texts xs rest) all self.new.tickets.items self.new.near) }
     {
-        match judge.judge(ticket)? {
-            Some((name, judgement)) => {
-                self.near = judge.near_with(self.near, &name, &judgement)?;
-                let ticket = ticket_of(judge.alloc, place, ticket, &name, judgement)?;
+        match judge.looked_at(place, ticket)? {
+            Some((name, ticket)) => {
+                self.near = judge.near_with(self.near, &name, &ticket.judgement)?;
                 Ok(self.tickets.push(ticket)?)
             }
             None => Ok(()),
@@ -144,20 +198,21 @@ impl<A: Allocator + Copy> Matched<A> {
 
 /// Returns the tickets of a cache that are looked at, each with what is said of it: those that are asked for by their names
 /// as these are printed, or all of services if there are none.
-pub fn match_tickets<A: Allocator + Copy, B: Allocator, C: Allocator>(
+pub fn match_tickets<'m, 'k, A: Allocator + Copy, B: Allocator, C: Allocator>(
     alloc: A,
-    keys: &Keys<'_, A>,
-    near: Option<&NearNames<'_, A>>,
+    classes: &'m Classes<'k, A>,
+    near: Option<&'m NearNames<'k, A>>,
     names: &[Vec<u8, B>],
     cache: &Ccache<C>,
 ) -> Result<Matched<A>, NoMemory>
-    ensures { (xs : List PlacedEntry) → AreKeys xs keys.now → IsNear xs (option_map (λ names. names.now) near.entry)
+    ensures { (xs : List PlacedEntry) → placed_entries classes.now ≡ xs → IsNear xs (option_map (λ names. names.now) near.entry)
         → IfOk result (λ m. (m.tickets.items ≡ map (matched xs) (looked_at (map vec_items names.now) xs (placed_credentials cache.now.state)))
         × (m.near ≡ (if is_some near.entry then first_near xs (looked_at (map vec_items names.now) xs (placed_credentials cache.now.state)) else None))) }
 {
     let mut judge = Judge {
         alloc,
-        keys,
+        classes,
+        keys: None,
         near,
         names: NameFilter::of(alloc, names)?,
         asks: !names.is_empty(),

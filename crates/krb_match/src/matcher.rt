@@ -1,13 +1,13 @@
 //! A keytab by whose entries the tickets of caches are matched.
 
-ghost use Rattle.std.specs.Prelude.{◌≡◌, ◌&&◌, IfOk, List, drop, is_some, map, option_map};
+ghost use Rattle.std.specs.Prelude.{◌≡◌, ◌&&◌, IfOk, List, is_some, map, option_map};
 ghost use Rattle.std.specs.Vec.{vec_items};
 ghost use Rattle.krb_keytab.specs.Find.{PlacedEntry, placed_entries};
 ghost use Rattle.krb_match.specs.Looking.{IsNear};
 ghost use Rattle.krb_match.specs.Names.{AreNames, entry_text};
 ghost use Rattle.krb_match.specs.Tickets.{matched_tickets, near_ticket};
 
-use crate::keys::Keys;
+use crate::classes::Classes;
 use crate::looking::{Matched, match_tickets};
 use crate::names::EntryNames;
 use crate::near::NearNames;
@@ -16,16 +16,6 @@ use krb_keytab::Keytab;
 use krb_wire::NoMemory;
 use std::alloc::Allocator;
 use std::marker::Model;
-
-// Returns the text of a name's key.
-fn text_of(key: &[u8]) -> &[u8]
-    ensures { result.now ≡ drop 1 key.now }
-{
-    match key {
-        [_, text @ ..] => text,
-        [] => &[],
-    }
-}
 
 // Returns those names if they are wanted.
 fn near_if<'m, 'k, A: Allocator>(
@@ -42,27 +32,21 @@ fn near_if<'m, 'k, A: Allocator>(
 /// none.
 #[derive(Drop)]
 pub struct Matcher<'k, A: Allocator> {
-    keytab: &'k Keytab<A>,
-    names: &'k [Vec<u8, A>],
-    keys: Keys<'k, A>,
+    classes: Classes<'k, A>,
     near: Option<NearNames<'k, A>>,
 }
 
 impl<'k, A: Allocator> Model for Matcher<'k, A> {
-    ghost use Rattle.std.specs.Prelude.{◌≡◌, Bool, is_some, map};
-    ghost use Rattle.std.specs.Vec.{vec_items};
+    ghost use Rattle.std.specs.Prelude.{Bool, is_some};
     ghost use Rattle.krb_keytab.specs.Find.{placed_entries};
     ghost use Rattle.krb_keytab.specs.Store.{KeytabState};
     ghost use Rattle.krb_match.specs.Looking.{IsNear};
-    ghost use Rattle.krb_match.specs.Names.{entry_key};
-    ghost use Rattle.krb_match.specs.Table.{AreKeys};
 
     ghost Value = { KeytabState × Bool };
 
-    ghost view = { λ m. (m.keytab.now.state, is_some m.near) };
+    ghost view = { λ m. (m.classes, is_some m.near) };
 
-    ghost invariant = { λ m. (map vec_items m.names.now ≡ map entry_key (placed_entries m.keytab.now.state))
-        × AreKeys (placed_entries m.keytab.now.state) m.keys × IsNear (placed_entries m.keytab.now.state) m.near };
+    ghost invariant = { λ m. IsNear (placed_entries m.classes) m.near };
 }
 
 impl<'k, A: Allocator + Copy> Matcher<'k, A> {
@@ -76,17 +60,12 @@ impl<'k, A: Allocator + Copy> Matcher<'k, A> {
         requires { AreNames (is_some names.now.near) (placed_entries keytab.now.state) names.now }
         ensures { IfOk result (λ m. m ≡ (keytab.now.state, is_some names.now.near)) }
     {
-        let keys = Keys::of(alloc, keytab, &names.keys)?;
+        let classes = Classes::of(alloc, keytab, &names.keys)?;
         let near = match &names.near {
             Some((folded, bare)) => Some(NearNames::of(alloc, folded, bare)?),
             None => None,
         };
-        Ok(Matcher {
-            keytab,
-            names: &names.keys,
-            keys,
-            near,
-        })
+        Ok(Matcher { classes, near })
     }
 
     /// Returns the tickets of a cache that are looked at, each with what is said of it: those that are asked for by their
@@ -103,16 +82,13 @@ impl<'k, A: Allocator + Copy> Matcher<'k, A> {
             ≡ near_ticket (names_near && self.now.1) (map vec_items names.now) self.now.0 cache.now.state) }
     {
         let near = near_if(names_near, &self.near);
-        Ok(match_tickets(alloc, &self.keys, near, names, cache)?)
+        Ok(match_tickets(alloc, &self.classes, near, names, cache)?)
     }
 
     /// Returns the name of the entry with a number as it is printed, or nothing if there is none.
     pub fn entry_text(&self, number: usize) -> &[u8]
         ensures { result.now ≡ entry_text self.now.0 number }
     {
-        match self.names.get(number) {
-            Some(key) => text_of(key),
-            None => &[],
-        }
+        self.classes.entry_text(number)
     }
 }

@@ -1,6 +1,6 @@
 //! The names of a keytab's entries as keys, by which they are compared.
 
-ghost use Rattle.std.specs.Prelude.{◌≡◌, IfOk, OnOk, map};
+ghost use Rattle.std.specs.Prelude.{◌≡◌, IfOk, OnOk, drop, map};
 ghost use Rattle.std.specs.Vec.{vec_items};
 ghost use Rattle.krb_wire.specs.Reading.{principal_parts};
 ghost use Rattle.krb_keytab.specs.Find.{placed_entries};
@@ -28,6 +28,28 @@ pub fn write_key<N: Name, A: Allocator>(name: &N, out: &mut Vec<u8, A>) -> Resul
     out.clear();
     append_byte(u8::from(name.count() == 0), out)?;
     write_name(name, out)
+}
+
+/// Returns a name as a key, which is written over `scratch` first.
+pub fn key_over<N: Name, A: Allocator + Copy>(
+    alloc: A,
+    name: &N,
+    scratch: &mut Vec<u8, A>,
+) -> Result<Vec<u8, A>, NoMemory>
+    ensures { IfOk result (λ key. key.items ≡ name_key (N.parts name.now)) }
+{
+    write_key(name, scratch)?;
+    Ok(Vec::from_slice(alloc, scratch)?)
+}
+
+/// Returns the text of a name's key.
+pub fn text_of(key: &[u8]) -> &[u8]
+    ensures { result.now ≡ drop 1 key.now }
+{
+    match key {
+        [_, text @ ..] => text,
+        [] => &[],
+    }
 }
 
 fn key_of<N: Name, A: Allocator + Copy>(alloc: A, name: &N) -> Result<Vec<u8, A>, NoMemory>
@@ -62,8 +84,9 @@ fn exact_keys<A: Allocator + Copy, B: Allocator>(
     ensures { IfOk result (λ keys. map vec_items keys.items ≡ map entry_key (placed_entries keytab.now.state)) }
 {
     let mut keys = Vec::with_capacity(alloc, keytab.cell_count() as usize)?;
+    let mut scratch = Vec::new(alloc);
     'entries: for (_place, entry) in keytab.entries() {
-        keys.push(key_of(alloc, entry.principal())?)?;
+        keys.push(key_over(alloc, entry.principal(), &mut scratch)?)?;
     }
     Ok(keys)
 }

@@ -1,11 +1,11 @@
 //! The tickets of a cache that are looked at.
 
-ghost use Rattle.std.specs.Prelude.{◌≡◌, IfOk, List, map};
-ghost use Rattle.std.specs.Vec.{vec_items};
+ghost use Rattle.std.specs.Prelude.{◌≡◌, IfOk};
 ghost use Rattle.krb_wire.specs.Reading.{principal_parts};
 ghost use Rattle.krb_match.specs.Match.{name_of};
 
 use crate::judgement::Judgement;
+use crate::names::text_of;
 use krb_ccache::{CredView, TicketEncryption, ticket_server};
 use krb_wire::{NoMemory, Principal, copy_name};
 use std::alloc::Allocator;
@@ -17,17 +17,27 @@ pub struct MatchedTicket<A: Allocator> {
     pub place: u32,
     /// Its own encryption, if its bytes are those of a ticket.
     pub encryption: Option<TicketEncryption>,
-    /// Its name as it is printed.
-    pub name: Vec<u8, A>,
+    /// Its name as a key.
+    pub key: Vec<u8, A>,
     pub judgement: Judgement,
 }
 
 impl<A: Allocator> Model for MatchedTicket<A> {
+    ghost use Rattle.std.specs.Prelude.{drop};
     ghost use Rattle.krb_match.specs.Tickets.{MatchedParts};
 
     ghost Value = { MatchedParts };
 
-    ghost view = { λ t. record { place = t.place; encryption = t.encryption; name = t.name.items; judgement = t.judgement } };
+    ghost view = { λ t. record { place = t.place; encryption = t.encryption; name = drop 1 t.key.items; judgement = t.judgement } };
+}
+
+impl<A: Allocator> MatchedTicket<A> {
+    /// Returns its name as it is printed.
+    pub fn name(&self) -> &[u8]
+        ensures { result.now ≡ self.now.name }
+    {
+        text_of(&self.key)
+    }
 }
 
 /// Returns the name of a ticket: the server that it names itself, if it does, or else its credential's.

@@ -1,9 +1,10 @@
-use Rattle.krb_match.proofs.Cited.{◌∙◌, ap, arith, judged, ticket_of}
+use Rattle.std.proofs.lemmas.Bool.Decides.{nat_tests}
+use Rattle.std.specs.Prelude.{IfOk}
+use Rattle.krb_match.proofs.Cited.{◌≡◌, arith, subst, judged, judged_among, named, ticket_of}
+use Rattle.krb_match.specs.declared.judgement.Judgement.{Judgement}
 use Rattle.krb_match.proofs.looking.Judge.judge.Goals as goal
 
-pub returns-clause-said : goal.returns-clause-said
-returns-clause-said g c = λ texts wanted xs old.
-    let ticket = c.args.ticket.now in
-    let name = c.in_ok-name.ensures in
-    let asked = c.in_ok-asks_for.ensures.asked texts wanted xs old name in
-    (grind (arith, asked), name, c.in_ok-judgement.ensures xs (c.asks_for.ensures.kept texts wanted xs old).keys_are ∙ ap (λ p. judged xs (ticket_of ticket p)) name)
+pub returns-in-Some-clause-said : goal.returns-in-Some-clause-said
+returns-in-Some-clause-said g c = λ texts wanted xs p old key read.
+    let is : judged_among c.in-Some.encryption (named p xs) ≡ judged xs (ticket_of c.args.ticket.now p) = grind (arith, nat_tests, read, c.in-Some.is) in
+    subst (λ (v : Judgement). IfOk c.judge_read.result (λ j. j ≡ v)) is (c.judge_read.ensures.said texts wanted xs p old key)

@@ -2,9 +2,8 @@ use Rattle.krb_match.proofs.Cited.{◌≡◌, ◌∙◌, ap, ap₂, subst, Bool,
 use Rattle.krb_wire.specs.Reading.{principal_parts}
 use Rattle.krb_ccache.specs.Store.{PlacedCredential}
 use Rattle.krb_match.specs.Match.{name_of}
-use Rattle.krb_match.specs.declared.judgement.Judgement.{Judgement}
 use Rattle.krb_match.specs.Looking.{AreMatched, IsSaid}
-use Rattle.krb_match.specs.Tickets.{MatchedParts, is_looked_at, looked_at, near_by, said}
+use Rattle.krb_match.specs.Tickets.{MatchedParts, is_looked_at, looked_at, matched, near_by}
 use Rattle.krb_match.proofs.Adding.{added}
 use Rattle.krb_match.proofs.looking.Matched.consider.Goals as goal
 
@@ -13,15 +12,14 @@ returns-in_ok-push-in-Some-clause-matched g c = λ texts wanted xs rest all old 
     let x : PlacedCredential = (c.args.place, c.args.ticket.now) in
     let m = c.args.self.now in
     let others = looked_at texts xs rest in
-    let found : (is_looked_at texts xs x.1 ≡ true) × (principal_parts c.in-Some.name ≡ name_of x.1) × (c.in-Some.judgement ≡ said xs x.1) = subst (IsSaid texts xs x.1) c.in-Some.is (c.in_ok-name.ensures.said texts wanted xs old) in
-    let ticket = c.in_ok-ticket-in-Some.ensures xs found.1 found.2 in
+    let found : (is_looked_at texts xs x.1 ≡ true) × (principal_parts c.in-Some.name ≡ name_of x.1) × (c.in-Some.ticket ≡ matched xs x) = subst (IsSaid texts xs x) c.in-Some.is (c.in_ok-name.ensures.said texts wanted xs old) in
     added wanted xs x others all m.tickets.items c.push.new.self.items m.near c.in_ok-self-in-Some.field-0
     (subst (λ (b : Bool). AreMatched wanted xs (cond b (x ∷ others) others) all m.tickets.items m.near) found.0 so_far)
-    (c.in_ok-push-in-Some.ensures.items ∙ ap (λ (t : MatchedParts). m.tickets.items ++ t ∷ []) ticket)
-    (c.in_ok-self-in-Some.ensures texts wanted xs (c.judge.ensures.kept texts wanted xs old) ∙ ap₂ (λ (p : Parts) (j : Judgement). option_or m.near (cond wanted (near_by xs p j) None)) found.1 found.2)
+    (c.in_ok-push-in-Some.ensures.items ∙ ap (λ (t : MatchedParts). m.tickets.items ++ t ∷ []) found.2)
+    (c.in_ok-self-in-Some.ensures texts wanted xs (c.looked_at.ensures.kept texts wanted xs old) ∙ ap₂ (λ (p : Parts) (t : MatchedParts). option_or m.near (cond wanted (near_by xs p t.judgement) None)) found.1 (c.ticket.view_is ∙ found.2))
 
 pub returns-in-None-clause-matched : goal.returns-in-None-clause-matched
 returns-in-None-clause-matched g c = λ texts wanted xs rest all old so_far.
     let m = c.args.self.now in
     let others = looked_at texts xs rest in
-    subst (λ (b : Bool). AreMatched wanted xs (cond b ((c.args.place, c.args.ticket.now) ∷ others) others) all m.tickets.items m.near) (subst (IsSaid texts xs c.args.ticket.now) c.in-None.is (c.in_ok-name.ensures.said texts wanted xs old)) so_far
+    subst (λ (b : Bool). AreMatched wanted xs (cond b ((c.args.place, c.args.ticket.now) ∷ others) others) all m.tickets.items m.near) (subst (IsSaid texts xs (c.args.place, c.args.ticket.now)) c.in-None.is (c.in_ok-name.ensures.said texts wanted xs old)) so_far

@@ -3,8 +3,8 @@ use Rattle.std.specs.Prelude.{slice_get}
 use Rattle.krb_wire.specs.Names.{name_text}
 use Rattle.krb_keytab.specs.Store.{KeytabState}
 use Rattle.krb_match.specs.Names.{entry_text}
-use Rattle.krb_match.proofs.Cited.{◌≡◌, ◌∙◌, sym, ap, refl, ℕ, Bool, List, [], length, drop, map, Option, Some, None, option_map, option_map_or, vec_items, entry_key, PlacedEntry, placed_entries}
-use Rattle.krb_match.proofs.matcher.Matcher.entry_text.Goals as goal
+use Rattle.krb_match.proofs.Cited.{◌≡◌, ◌∙◌, sym, ap, refl, ℕ, List, [], length, drop, map, Option, Some, None, option_map, option_map_or, vec_items, entry_key, PlacedEntry, placed_entries}
+use Rattle.krb_match.proofs.classes.Classes.entry_text.Goals as goal
 
 of_key : (x : Option PlacedEntry) → option_map_or (drop 1) (option_map entry_key x) [] ≡ option_map_or (λ x. name_text x.1.principal) x []
 of_key None = refl
@@ -18,10 +18,10 @@ pub returns-in-Some : goal.returns-in-Some
 returns-in-Some g c =
     let m = c.self.inside in
     let within = c.in-Some.ensures.lookup in
-    c.text_of.ensures ∙ ap (drop 1) c.deref.ensures.value ∙ text_is vec_items m.names.now (placed_entries m.keytab.now.state) c.args.number (Some c.in-Some.key.now) c.self.invariant.0 (slice_get_read m.names.now (length m.names.now) c.args.number c.in-Some.key.now refl within.3.0 within.1) ∙ ap (λ (v : KeytabState × Bool). entry_text v.0 c.args.number) c.self.view_is
+    c.text_of.ensures ∙ ap (drop 1) c.deref.ensures.value ∙ text_is vec_items m.keys.now (placed_entries m.keytab.now.state) c.args.number (Some c.in-Some.key.now) c.self.invariant.0 (slice_get_read m.keys.now (length m.keys.now) c.args.number c.in-Some.key.now refl within.3.0 within.1) ∙ ap (λ (k : KeytabState). entry_text k c.args.number) c.self.view_is
 
 pub returns-in-None : goal.returns-in-None
 returns-in-None g c =
     let m = c.self.inside in
     let past = c.in-None.ensures.lookup in
-    text_is vec_items m.names.now (placed_entries m.keytab.now.state) c.args.number None c.self.invariant.0 (slice_get_past m.names.now c.args.number past.3) ∙ ap (λ (v : KeytabState × Bool). entry_text v.0 c.args.number) c.self.view_is
+    text_is vec_items m.keys.now (placed_entries m.keytab.now.state) c.args.number None c.self.invariant.0 (slice_get_past m.keys.now c.args.number past.3) ∙ ap (λ (k : KeytabState). entry_text k c.args.number) c.self.view_is
