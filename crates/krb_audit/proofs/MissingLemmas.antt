@@ -16,19 +16,6 @@ seen_more before x name text is = grind (arith, is, list_any-append (prints_as t
 pub seen_next : (before : List PlacedEntry) (x : PlacedEntry) (name : Parts) → name ≡ x.1.principal → (λ text. seen_in before text || bytes_eq (name_text name) text) ≡ seen_in (before ++ x ∷ [])
 seen_next before x name is i text = seen_more before x name text is i
 
-same_text : (p q : Parts) → have_same_name p q ≡ true → name_text p ≡ name_text q
-same_text p q same = search (arith, and_both, bytes_eq-Decides, slice_eq-Decides)
-
--- an entry whose name came before prints as nothing new
-printed_before : (n i : ℕ) (x : PlacedEntry) (before rest : List PlacedEntry) (t : List ℕ) → first_from n x.1.principal (before ++ x ∷ rest) ≡ Some i → i ≢ n + length before → list_any (prints_as t) (before ++ x ∷ []) ≡ list_any (prints_as t) before
-printed_before n i x [] rest t number other = grind (arith, number, other, same_equiv.refl x.1.principal)
-printed_before n i x (y ∷ ys) rest t number other = grind (arith, printed_before (n + 1) i x ys rest t, number, other, same_text, list_any-append)
-
--- nothing changes with an entry whose name came before
-pub seen_again : (before rest : List PlacedEntry) (x : PlacedEntry) (first : ℕ) → first_number x.1.principal (before ++ x ∷ rest) ≡ Some first → first ≢ length before → seen_in before ≡ seen_in (before ++ x ∷ [])
-seen_again before rest x first number other i text =
-    sym (printed_before 0 first x before rest text number (λ is. other (omega (arith, is)))) i
-
 -- ---- what is missing
 
 -- the texts of some references

@@ -39,9 +39,8 @@ abbrev pub AreFirsts : List PlacedEntry → List PlacedEntry → (Key → Option
 AreFirsts all xs look = (x : PlacedEntry) (i : ℕ) → first_number x.1.principal all ≡ Some i → look (record { 0 = i }, x.1.version, x.1.enctype) ≡ option_map (λ y. (y.0, y.1.key)) (find (is_alike x) xs)
 
 -- these are the wanted texts, and those that some name of the entries `before` prints as are marked
-pub record IsMissing {A : Type 0} (wanted : List (List ℕ)) (before : List PlacedEntry) (m : Missing A) : Type 0 where
-  pub marks : AreMarked (λ text. list_any (prints_as text) before) wanted m.wanted
-  pub count : m.count ≡ length before
+abbrev pub IsMissing : {A : Type 0} → List (List ℕ) → List PlacedEntry → Missing A → Type 0
+IsMissing wanted before m = AreMarked (λ text. list_any (prints_as text) before) wanted m.wanted
 
 -- what is known of a keytab between the entries `before` and the entries `rest`
 pub record IsBefore {A : Type 0} (k : KeytabState) (wanted : List (List ℕ)) (before rest : List PlacedEntry) (b : Before A) : Type 0 where

@@ -41,20 +41,6 @@ struct Before<'a, A: Allocator> {
     weak_etypes: WeakEtypes,
 }
 
-// Returns whether it holds and did not hold before.
-fn is_first(holds: bool, held: bool) -> bool
-    ensures { result ≡ (holds && not held) }
-{
-    holds && !held
-}
-
-// Returns whether it holds, or held before.
-fn either(held: bool, holds: bool) -> bool
-    ensures { result ≡ (held || holds) }
-{
-    held || holds
-}
-
 // Returns whether a key is not as long as its enctype's, if that has a length.
 fn has_odd_size(entry: &EntryView<'_>) -> bool
     ensures { result ≡ has_odd_size entry.now }
@@ -80,20 +66,14 @@ fn is_aged(by: Option<u32>, old: bool, entry: &EntryView<'_>) -> bool
 fn repeats(alike: Option<Alike>) -> bool
     ensures { result ≡ repeats alike }
 {
-    match alike {
-        Some(alike) => alike.has_same_key,
-        None => false,
-    }
+    alike.is_some_and(|alike| alike.has_same_key)
 }
 
 // Returns whether one does with another key.
 fn clashes(alike: Option<Alike>) -> bool
     ensures { result ≡ clashes alike }
 {
-    match alike {
-        Some(alike) => !alike.has_same_key,
-        None => false,
-    }
+    alike.is_some_and(|alike| !alike.has_same_key)
 }
 
 fn place_of(alike: Option<Alike>) -> Option<u32>
@@ -139,13 +119,13 @@ impl<'a, A: Allocator + Copy> Before<'a, A> {
         let kvno = entry.kvno();
         let etype = entry.enctype();
         let ends = ends_mit(entry);
-        let hidden = is_first(ends, self.has_ended);
+        let hidden = ends & !self.has_ended;
         let first = next_number(&mut self.rows);
         let old = next_mark(&mut self.are_old);
-        self.missing.mark_next(first, place, entry)?;
+        self.missing.mark_next(entry)?;
         let key = (Reverse(first), kvno, etype);
         let alike = self.firsts.consider(key, place, entry.key())?;
-        self.has_ended = either(self.has_ended, ends);
+        self.has_ended |= ends;
         add_weak(&mut self.weak_etypes, etype);
         Ok(Marks {
             findings: FindingSet::none()

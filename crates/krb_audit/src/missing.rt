@@ -1,6 +1,6 @@
 //! Names that have to be there, and are missing.
 
-ghost use Rattle.std.specs.Prelude.{◌≡◌, ◌||◌, [], ◌++◌, ◌∷◌, Bool, List, ℕ, Some, IfOk, OnOk, if◌then◌else◌, map, true};
+ghost use Rattle.std.specs.Prelude.{◌≡◌, ◌||◌, [], ◌++◌, ◌∷◌, Bool, List, ℕ, IfOk, OnOk, if◌then◌else◌, map, true};
 ghost use Rattle.std.specs.Str.{bytes_eq};
 ghost use Rattle.std.specs.Vec.{vec_items};
 ghost use Rattle.krb_wire.specs.Names.{name_text};
@@ -9,7 +9,6 @@ ghost use Rattle.krb_names.specs.Set.{is_among};
 ghost use Rattle.krb_keytab.specs.Find.{PlacedEntry};
 ghost use Rattle.krb_audit.specs.Before.{IsMissing};
 ghost use Rattle.krb_audit.specs.CheckUp.{missing_among};
-ghost use Rattle.krb_audit.specs.Rows.{first_number};
 
 use krb_keytab::EntryView;
 use krb_names::NameMarks;
@@ -59,8 +58,6 @@ pub(crate) struct Missing<'w, A: Allocator> {
     wanted: NameMarks<'w, A>,
     // Scratch space for the name of an entry.
     printed: Vec<u8, A>,
-    /// The number of entries so far.
-    count: u32,
 }
 
 impl<'w, A: Allocator + Copy> Missing<'w, A> {
@@ -71,28 +68,15 @@ impl<'w, A: Allocator + Copy> Missing<'w, A> {
         Ok(Missing {
             wanted: NameMarks::of(alloc, wanted)?,
             printed: Vec::new(alloc),
-            count: 0,
         })
     }
 
-    /// Marks the text as which the next entry's name prints. The first entry of the name has the number `first`.
-    pub fn mark_next(
-        &mut self,
-        first: u32,
-        place: u32,
-        entry: &EntryView<'_>,
-    ) -> Result<(), NoMemory>
-        ensures { (wanted : List (List ℕ)) (before rest : List PlacedEntry) → IsMissing wanted before self.old
-            → first_number entry.now.principal (before ++ (place, entry.now) ∷ rest) ≡ Some first
+    /// Marks the text as which the next entry's name prints.
+    pub fn mark_next(&mut self, entry: &EntryView<'_>) -> Result<(), NoMemory>
+        ensures { (wanted : List (List ℕ)) (before : List PlacedEntry) (place : ℕ) → IsMissing wanted before self.old
             → OnOk result (IsMissing wanted (before ++ (place, entry.now) ∷ []) self.new) }
     {
-        // A name that came before is marked.
-        if first == self.count {
-            mark(entry.principal(), &mut self.printed, &mut self.wanted)?;
-        }
-        // A keytab has fewer entries than 2 ^ 32.
-        self.count = self.count.checked_add(1).ok_or(NoMemory)?;
-        Ok(())
+        mark(entry.principal(), &mut self.printed, &mut self.wanted)
     }
 
     /// Returns the texts that are missing, each once.

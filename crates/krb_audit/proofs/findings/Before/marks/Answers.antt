@@ -17,8 +17,8 @@ returns g c = λ k wanted before rest known.
     let look : Key → Option (ℕ × List ℕ) = looked old.firsts in
     let key : Key = (record { 0 = first }, c.kvno-kvno.result, c.enctype-etype.result) in
     let is : key ≡ key_in first x = λ i. (record { 0 = first }, c.kvno-kvno.ensures i, c.enctype-etype.ensures i) in
-    let hidden : c.is_first-hidden.result ≡ (ends_mit x.1 && not (list_any (λ y. ends_mit y.1) before)) =
-    c.is_first-hidden.ensures ∙ ap (λ (b : Bool). b && not old.has_ended) c.ends_mit-ends.ensures ∙ ap (λ (b : Bool). ends_mit x.1 && not b) known.has_ended in
+    let hidden : (c.ends_mit-ends.result && not old.has_ended) ≡ (ends_mit x.1 && not (list_any (λ y. ends_mit y.1) before)) =
+    ap (λ (b : Bool). b && not old.has_ended) c.ends_mit-ends.ensures ∙ ap (λ (b : Bool). ends_mit x.1 && not b) known.has_ended in
     let alike : c.in_ok-alike.alike ≡ first_alike before x =
     c.in_ok-alike.ensures.alike ∙ ap (λ (s : List ℕ). option_map (alike_to s) (look key)) c.key.ensures ∙ ap (λ (l : Key). option_map (alike_to x.1.key) (look l)) is ∙ alike_here all before x first look known.firsts next.0 in
     let with_weak = c.with_if.ensures ∙ ap₂ (λ b s. with_if b Weak s) (c.is_weak.ensures ∙ ap is_weak c.enctype-etype.ensures) c.none.ensures in
@@ -36,9 +36,9 @@ returns g c = λ k wanted before rest known.
         all = known.all ∙ sym (append_assoc before (x ∷ []) rest);
         rows = next.1;
         are_old = marked.1;
-        missing = c.in_ok-mark_next.ensures wanted before rest known.missing (ap (first_number x.1.principal) (sym known.all) ∙ next.0);
+        missing = c.in_ok-mark_next.ensures wanted before x.0 known.missing;
         firsts = firsts_next all before x first look (looked c.consider.new.self) known.firsts next.0 puts;
-        has_ended = c.either-self.ensures ∙ ap (λ (b : Bool). old.has_ended || b) c.ends_mit-ends.ensures ∙ ended_here before x old.has_ended known.has_ended;
+        has_ended = ap (λ (b : Bool). old.has_ended || b) c.ends_mit-ends.ensures ∙ ended_here before x old.has_ended known.has_ended;
         weak_etypes = c.add_weak.ensures before x known.weak_etypes c.enctype-etype.ensures;
       },
     )
