@@ -1,6 +1,6 @@
 //! Lines of entries, with and without their places. If an allocation fails, part of a line may have been appended.
 
-ghost use Rattle.std.specs.Prelude.{◌≡◌, IfOk};
+ghost use Rattle.std.specs.Prelude.{◌≡◌, ◌++◌, IfOk, OnOk};
 ghost use Rattle.krb_wire.specs.Text.{AppendedPart};
 ghost use Rattle.krb_keytab_text.specs.Listing.{entry_line, time_column, etype_column, key_column, entry_tail, found_line, placed_line};
 
@@ -19,7 +19,7 @@ fn append_time<A: Allocator>(
     seconds: u32,
     out: &mut Vec<u8, A>,
 ) -> Result<(), NoMemory>
-    ensures { AppendedPart (time_column is_shown seconds) out.old out.new result }
+    ensures { OnOk result (out.new.items ≡ out.old.items ++ time_column is_shown seconds) }
 {
     if !is_shown {
         return Ok(());
@@ -34,7 +34,7 @@ fn append_etype<A: Allocator>(
     etype: u16,
     out: &mut Vec<u8, A>,
 ) -> Result<(), NoMemory>
-    ensures { AppendedPart (etype_column is_shown etype) out.old out.new result }
+    ensures { OnOk result (out.new.items ≡ out.old.items ++ etype_column is_shown etype) }
 {
     if !is_shown {
         return Ok(());
@@ -51,7 +51,7 @@ fn append_key<A: Allocator>(
     key: &[u8],
     out: &mut Vec<u8, A>,
 ) -> Result<(), NoMemory>
-    ensures { AppendedPart (key_column is_shown key.now) out.old out.new result }
+    ensures { OnOk result (out.new.items ≡ out.old.items ++ key_column is_shown key.now) }
 {
     if !is_shown {
         return Ok(());
@@ -68,7 +68,7 @@ pub fn append_entry<N: Name, A: Allocator>(
     entry: &Fields<'_, N>,
     out: &mut Vec<u8, A>,
 ) -> Result<(), NoMemory>
-    ensures { AppendedPart (entry_line columns entry.now) out.old out.new result }
+    ensures { OnOk result (out.new.items ≡ out.old.items ++ entry_line columns entry.now) }
 {
     append_right_in_4(entry.kvno as u64, out)?;
     append_time(columns.times, last, entry.timestamp, out)?;

@@ -1,7 +1,6 @@
 //! The listings of a keytab and of the slots of ktutil.
 
 ghost use Rattle.std.specs.Prelude.{◌≡◌, ◌++◌, OnOk, IsFalse, ◌≤◌, OnErr, vec_capacity};
-ghost use Rattle.krb_wire.specs.Text.{AppendedPart};
 ghost use Rattle.krb_text.specs.Gathered.{Gathers, Prints};
 ghost use Rattle.krb_keytab_text.specs.Listing.{titles, underlines, heading, entry_lines, list_text, slot_heading, slot_line, slot_lines, slot_text};
 
@@ -89,7 +88,7 @@ pub fn list_keytab<A: Allocator, B: Allocator, W: Write>(
 }
 
 fn append_slot_heading<A: Allocator>(times: bool, out: &mut Vec<u8, A>) -> Result<(), NoMemory>
-    ensures { AppendedPart (slot_heading times) out.old out.new result }
+    ensures { OnOk result (out.new.items ≡ out.old.items ++ slot_heading times) }
 {
     append(b"slot ", out)?;
     append(titles(times), out)?;
@@ -104,7 +103,7 @@ fn append_slot<A: Allocator, B: Allocator>(
     entry: &NewEntry<B>,
     out: &mut Vec<u8, A>,
 ) -> Result<(), NoMemory>
-    ensures { AppendedPart (slot_line columns (slot, entry.now)) out.old out.new result }
+    ensures { OnOk result (out.new.items ≡ out.old.items ++ slot_line columns (slot, entry.now)) }
 {
     append_right_in_4(slot, out)?;
     append_entry(columns, last, &entry.fields(), out)
@@ -115,7 +114,7 @@ fn append_slots<A: Allocator, B: Allocator>(
     entries: &[NewEntry<B>],
     out: &mut Vec<u8, A>,
 ) -> Result<(), NoMemory>
-    ensures { AppendedPart (slot_lines columns 1 entries.now) out.old out.new result }
+    ensures { OnOk result (out.new.items ≡ out.old.items ++ slot_lines columns 1 entries.now) }
 {
     let mut last = LastTime::new();
     let mut slot = 0;
@@ -131,7 +130,7 @@ fn append_listing<A: Allocator, B: Allocator>(
     columns: KtColumns,
     out: &mut Vec<u8, A>,
 ) -> Result<(), NoMemory>
-    ensures { AppendedPart (slot_text columns entries.now) out.old out.new result }
+    ensures { OnOk result (out.new.items ≡ out.old.items ++ slot_text columns entries.now) }
 {
     append_slot_heading(columns.times, out)?;
     append_slots(columns, entries, out)

@@ -21,14 +21,14 @@ pub returns-in_err-send_if_full : goal.returns-in_err-send_if_full
 returns-in_err-send_if_full g c =
     let p = err_from_is_err_and c.from_residual-in_err-send_if_full.result c.from_residual-in_err-send_if_full.ensures.1 in
     let lines = rw (ap (lines_of c.args.columns) c.in-Some.ensures.steps) at c.entries.invariant.passed in
-    let passed = passed_gather _ _ _ (entry_line c.args.columns c.in-Some.entry) (lines_of c.args.columns c.next.new.self) c.entries.gathered.items _ lines (rw c.fields.ensures.is at c.in_ok-append_entry.ensures.ok) in
+    let passed = passed_gather _ _ _ (entry_line c.args.columns c.in-Some.entry) (lines_of c.args.columns c.next.new.self) c.entries.gathered.items _ lines (rw c.fields.ensures.is at c.in_ok-append_entry.ensures) in
     let sent = c.in_err-send_if_full.ensures in
     rw p.1 (gathers_write _ _ _ _ _ _ _ _ _ passed sent.prefix sent.failed (p.2 ∙ sent.why))
 
 pub entries-preserved : goal.entries-preserved
 entries-preserved g c =
     let lines = rw (ap (lines_of c.args.columns) c.in-Some.ensures.steps) at c.entries.invariant.passed in
-    let passed = passed_gather _ _ _ (entry_line c.args.columns c.in-Some.entry) (lines_of c.args.columns c.next.new.self) c.entries.gathered.items _ lines (rw c.fields.ensures.is at c.in_ok-append_entry.ensures.ok) in
+    let passed = passed_gather _ _ _ (entry_line c.args.columns c.in-Some.entry) (lines_of c.args.columns c.next.new.self) c.entries.gathered.items _ lines (rw c.fields.ensures.is at c.in_ok-append_entry.ensures) in
     record {
       well = c.in_ok-send_if_full.ensures.failed;
       passed = passed_send _ _ _ _ _ _ _ passed c.in_ok-send_if_full.ensures.ok;
