@@ -43,7 +43,7 @@ pub use Rattle.krb_wire.proofs.Lists.{all_front, all_join}
 pub use Rattle.krb_wire.specs.Reading.{◌>>=◌, principal_parts}
 pub use Rattle.krb_walk.specs.Store.{Cell, Store, Standing, Record, standing, end_from, record_of, record_of_some, bytes_of_some, live_bytes, fault_of, fault_from}
 pub use denote.Ref.{Bor}
-pub use Rattle.krb_copy.specs.declared.class.Class.TheVariants.{Empty, Kept}
+pub use Rattle.krb_copy.specs.declared.class.Class.TheVariants.{Empty, One}
 pub use Rattle.std.proofs.lemmas.Result.{err_from_is_err_and}
 pub use Rattle.krb_copy.specs.declared.copy.Copying.{Copying}
 pub use Rattle.krb_keytab.specs.Form.{IsEntry, read_back}

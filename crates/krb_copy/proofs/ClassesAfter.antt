@@ -1,5 +1,5 @@
 -- What is known of all classes, before a run and after each entry asked for.
-use Rattle.krb_copy.proofs.Cited.{◌≡◌, ℕ, Bool, true, false, cond, List, [], ◌∷◌, ◌++◌, Option, Some, None, refl, arith, sym, ap, subst, ◌∙◌, map, filter, not, ◌&&◌, ◌||◌, list_any, bytes_eq, append-nil, list_any-append, EntryParts, are_twins, are_same, Held, as_found, as_copied, twins, There, Clash, step_among, step_of, with_copy, AreClasses, ClassKey, unwrap_or, map_push, is_kept, HaveClass, IsClass, IsClassKey, class_cmp, has_key, places_of, stays, step_at, BTreeMap, get, Updates, not-and_self, or_assoc, or-false, or-true, filter-append, Bor, Class, Empty, Kept}
+use Rattle.krb_copy.proofs.Cited.{◌≡◌, ℕ, Bool, true, false, cond, List, [], ◌∷◌, ◌++◌, Option, Some, None, refl, arith, sym, ap, subst, ◌∙◌, map, filter, not, ◌&&◌, ◌||◌, list_any, bytes_eq, append-nil, list_any-append, EntryParts, are_twins, are_same, Held, as_found, as_copied, twins, There, Clash, step_among, step_of, with_copy, AreClasses, ClassKey, unwrap_or, map_push, is_kept, HaveClass, IsClass, IsClassKey, class_cmp, has_key, places_of, stays, step_at, BTreeMap, get, Updates, not-and_self, or_assoc, or-false, or-true, filter-append, Bor, Class, Empty, One}
 use Rattle.krb_copy.proofs.Alike.{alike, apart, twins_equiv}
 use Rattle.krb_copy.proofs.Passing.{any_either, any_left, filter_twice}
 use Rattle.krb_copy.proofs.ClassKeys.{classes_agree}
@@ -173,7 +173,7 @@ module _ {A : Type 0} {before : List EntryParts} {held : List Held} {x : EntryPa
       updated (before ++ x ∷ []) held (subst (IsClass (before ++ x ∷ []) (twins x held)) (sym is) (record { places = m.is.places; keys = m.is.keys; kept = m.is.kept ∙ sym kept })) (asked_leaves before held x)
 
   -- it is copied: it is the only one of its class, and stays
-  pub after_copy : (place : ℕ) (key : Bor (List ℕ)) → c ≡ Kept place key → key.now ≡ x.key → AreClasses (before ++ x ∷ []) (with_copy held x place) after
+  pub after_copy : (place : ℕ) (key : Bor (List ℕ)) → c ≡ One place key true → key.now ≡ x.key → AreClasses (before ++ x ∷ []) (with_copy held x place) after
   after_copy place key is key_is =
       updated (before ++ x ∷ []) (with_copy held x place)
       (subst (λ (hs : List Held). IsClass (before ++ x ∷ []) hs c) (sym (copy_alone x x held place (twins_equiv.refl x))) (of_one (before ++ x ∷ []) (as_copied place x) key c (ap places_of is) (λ q. ap (λ d. has_key d q) is) key_is (ap stays is)))

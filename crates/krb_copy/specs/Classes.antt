@@ -14,7 +14,7 @@ use Rattle.krb_keytab.specs.Entry.{EntryParts}
 use Rattle.krb_names.specs.Hash.{hash_of}
 use Rattle.krb_copy.specs.Copying.{Held, twins, is_kept, Step, There, Clash, Copy}
 use Rattle.krb_copy.specs.declared.class.Class.{Class}
-use Rattle.krb_copy.specs.declared.class.Class.TheVariants.{Empty, Found, Kept, More}
+use Rattle.krb_copy.specs.declared.class.Class.TheVariants.{Empty, One, More}
 use Rattle.krb_copy.specs.declared.class.Step.{Step as StepOf}
 use Rattle.krb_copy.specs.declared.class.Step.TheVariants as step
 
@@ -27,22 +27,19 @@ has_among keys key = contains_by (λ k. slice_cmp nat_cmp key k.now) keys
 -- the places of its entries, in order
 abbrev pub places_of : {A : Type 0} → Class A → List ℕ
 places_of Empty = []
-places_of (Found place key) = place ∷ []
-places_of (Kept place key) = place ∷ []
+places_of (One place key kept) = place ∷ []
 places_of (More many) = many.value.places.items
 
 -- one of them has a key
 abbrev pub has_key : {A : Type 0} → Class A → List ℕ → Bool
 has_key Empty key = false
-has_key (Found place first) key = bytes_eq key first.now
-has_key (Kept place first) key = bytes_eq key first.now
+has_key (One place first kept) key = bytes_eq key first.now
 has_key (More many) key = has_among many.value.keys key
 
 -- one of them stays
 abbrev pub stays : {A : Type 0} → Class A → Bool
 stays Empty = false
-stays (Found place key) = false
-stays (Kept place key) = true
+stays (One place key kept) = kept
 stays (More many) = many.value.stays
 
 -- `class` has the places and the keys of `held`, and whether one stays

@@ -35,10 +35,8 @@ pub enum Step<'a> {
 pub enum Class<'t, A: Allocator> {
     /// Its first entry is still to be added.
     Empty,
-    /// The place and the key of one that was there before the run.
-    Found(u32, &'t [u8]),
-    /// The place and the key of one that stays.
-    Kept(u32, &'t [u8]),
+    /// The place and the key of the only one, and whether it stays.
+    One(u32, &'t [u8], bool),
     More(Box<Many<'t, A>, A>),
 }
 
@@ -83,8 +81,7 @@ impl<'t, A: Allocator + Copy> Class<'t, A> {
     {
         match self {
             Class::Empty => &[],
-            Class::Found(place, _) => slice::from_ref(place),
-            Class::Kept(place, _) => slice::from_ref(place),
+            Class::One(place, _, _) => slice::from_ref(place),
             Class::More(many) => &many.places,
         }
     }
@@ -95,8 +92,7 @@ impl<'t, A: Allocator + Copy> Class<'t, A> {
     {
         match self {
             Class::Empty => false,
-            Class::Found(_, first) => key == *first,
-            Class::Kept(_, first) => key == *first,
+            Class::One(_, first, _) => key == *first,
             Class::More(many) => many.keys.contains(key),
         }
     }
@@ -107,8 +103,7 @@ impl<'t, A: Allocator + Copy> Class<'t, A> {
     {
         match self {
             Class::Empty => false,
-            Class::Found(_, _) => false,
-            Class::Kept(_, _) => true,
+            Class::One(_, _, stays) => *stays,
             Class::More(many) => many.stays,
         }
     }
@@ -145,13 +140,9 @@ impl<'t, A: Allocator + Copy> Class<'t, A> {
         ensures stays { OnOk result (stays self.new ≡ stays self.old) }
     {
         match self {
-            Class::Empty => *self = Class::Found(place, key),
-            Class::Found(first, first_key) => {
-                let many = Many::two(alloc, (*first, *first_key), (place, key), false)?;
-                *self = Class::More(many);
-            }
-            Class::Kept(first, first_key) => {
-                let many = Many::two(alloc, (*first, *first_key), (place, key), true)?;
+            Class::Empty => *self = Class::One(place, key, false),
+            Class::One(first, first_key, stays) => {
+                let many = Many::two(alloc, (*first, *first_key), (place, key), *stays)?;
                 *self = Class::More(many);
             }
             Class::More(many) => many.push(place, key)?,
@@ -167,8 +158,7 @@ impl<'t, A: Allocator + Copy> Class<'t, A> {
     {
         match self {
             Class::Empty => {}
-            Class::Found(place, key) => *self = Class::Kept(*place, *key),
-            Class::Kept(_, _) => {}
+            Class::One(_, _, stays) => *stays = true,
             Class::More(many) => many.stays = true,
         }
     }

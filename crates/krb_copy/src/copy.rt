@@ -76,7 +76,7 @@ impl<'t, A: Allocator + Copy> Copying<'t, A> {
             Step::Clash(twin) => self.making.clash(place, entry, twin)?,
             Step::Copy(places) => {
                 let place = self.making.copy(alloc, places, entry)?;
-                *class = Class::Kept(place, key);
+                *class = Class::One(place, key, true);
             }
         }
         Ok(())

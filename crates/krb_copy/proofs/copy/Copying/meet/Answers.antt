@@ -1,4 +1,4 @@
-use Rattle.krb_copy.proofs.ForAnswers.{◌++◌, ◌∷◌, [], List, ℕ, refl, sym, ap, ◌∙◌, PlacedEntry, run_after, clash_line, copied_lines, err_from_is_err_and, Kept, after_clash, after_copy, after_there, met, step_is, copied_run, refused_run}
+use Rattle.krb_copy.proofs.ForAnswers.{true, ◌++◌, ◌∷◌, [], List, ℕ, refl, sym, ap, ◌∙◌, PlacedEntry, run_after, clash_line, copied_lines, err_from_is_err_and, One, after_clash, after_copy, after_there, met, step_is, copied_run, refused_run}
 use Rattle.krb_copy.proofs.copy.Copying.meet.Goals as goal
 
 pub returns-in_err-place-in-Copy-clause-meets : goal.returns-in_err-place-in-Copy-clause-meets
@@ -57,7 +57,7 @@ returns-in_ok-place-in-Copy-clause-meets g c = λ run asked s.
     let m = met run.before run.held x.1 c.class_key-kind.result c.args.self.now.classes c.or_insert-class.result.now s.classes (c.class_key-kind.ensures name.0) c.in_ok-self.ensures.value c.or_insert-class.ensures.value in
     let step = c.in-Copy.ensures ∙ step_is c.args.self.now.replace c.args.key.now m c.requires in
     let same = c.self-in-Copy-2-1.given.1 (sym c.in_ok-self.ensures.same_map) in
-    let kept = Kept c.in_ok-place-in-Copy.place c.args.key in
+    let kept = One c.in_ok-place-in-Copy.place c.args.key true in
     copied_run run x asked c.args.self.now.replace c.in-Copy.places.now c.in_ok-place-in-Copy.place c.args.self.now.making.keytab.state
     (record { making = c.copy.new.self; classes = _; names = c.next.new.self; replace = c.args.self.now.replace })
     s.keytab step c.in_ok-place-in-Copy.ensures.added
