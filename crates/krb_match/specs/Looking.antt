@@ -1,5 +1,5 @@
 -- What is known while the tickets of a cache are looked at.
-use Rattle.std.specs.Prelude.{◌≡◌, ⊤, ℕ, List, ◌++◌, map, option_map, is_some, Bool, true, false, not, ◌==◌, length, if◌then◌else◌, Option, None, Some, IfSome}
+use Rattle.std.specs.Prelude.{◌≡◌, ⊤, ℕ, List, ◌++◌, map, is_some, Bool, true, false, not, ◌==◌, length, if◌then◌else◌, Option, None, Some, IfSome}
 use Rattle.std.specs.Option.{option_or}
 use Rattle.krb_wire.specs.Reading.{principal_parts}
 use Rattle.krb_wire.specs.declared.principal.Principal.{Principal}
@@ -32,7 +32,7 @@ pub record JudgesBy {A : Type 0} (texts : List (List ℕ)) (wanted : Bool) (xs :
 
 -- a judge has those parts
 abbrev pub IsJudge : {A : Type 0} → List (List ℕ) → Bool → List PlacedEntry → Judge A → Type 0
-IsJudge texts wanted xs judge = JudgesBy texts wanted xs judge.names.names judge.asks judge.classes.now judge.keys (option_map (λ names. names.now) judge.near)
+IsJudge texts wanted xs judge = JudgesBy texts wanted xs judge.names.names judge.asks judge.classes.now judge.keys judge.near.now
 
 -- a ticket that is looked at, and its name, or nothing
 abbrev pub IsSaid : {A : Type 0} → List (List ℕ) → List PlacedEntry → PlacedCredential → Option (Principal A × MatchedParts) → Type 0

@@ -1,6 +1,6 @@
 //! Which tickets of a cache are looked at, and what is said of each.
 
-ghost use Rattle.std.specs.Prelude.{◌≡◌, ◌∷◌, ℕ, Bool, IfOk, OnOk, List, if◌then◌else◌, is_some, map, None, option_map};
+ghost use Rattle.std.specs.Prelude.{◌≡◌, ◌∷◌, ℕ, Bool, IfOk, OnOk, List, if◌then◌else◌, is_some, map, None};
 ghost use Rattle.std.specs.Option.{option_or};
 ghost use Rattle.std.specs.Vec.{vec_items};
 ghost use Rattle.krb_wire.specs.Reading.{principal_parts};
@@ -39,7 +39,7 @@ struct Judge<'m, 'k, 't, A: Allocator> {
     alloc: A,
     classes: &'m Classes<'k, A>,
     keys: Option<Keys<'k, A>>,
-    near: Option<&'m NearNames<'k, A>>,
+    near: &'m Option<NearNames<'k, A>>,
     names: NameFilter<'t, A>,
     asks: bool,
     scratch: Vec<u8, A>,
@@ -201,13 +201,13 @@ impl<A: Allocator + Copy> Matched<A> {
 pub fn match_tickets<'m, 'k, A: Allocator + Copy, B: Allocator, C: Allocator>(
     alloc: A,
     classes: &'m Classes<'k, A>,
-    near: Option<&'m NearNames<'k, A>>,
+    near: &'m Option<NearNames<'k, A>>,
     names: &[Vec<u8, B>],
     cache: &Ccache<C>,
 ) -> Result<Matched<A>, NoMemory>
-    ensures { (xs : List PlacedEntry) → placed_entries classes.now ≡ xs → IsNear xs (option_map (λ names. names.now) near.entry)
+    ensures { (xs : List PlacedEntry) → placed_entries classes.now ≡ xs → IsNear xs near.now
         → IfOk result (λ m. (m.tickets.items ≡ map (matched xs) (looked_at (map vec_items names.now) xs (placed_credentials cache.now.state)))
-        × (m.near ≡ (if is_some near.entry then first_near xs (looked_at (map vec_items names.now) xs (placed_credentials cache.now.state)) else None))) }
+        × (m.near ≡ (if is_some near.now then first_near xs (looked_at (map vec_items names.now) xs (placed_credentials cache.now.state)) else None))) }
 {
     let mut judge = Judge {
         alloc,

@@ -1,9 +1,8 @@
 //! A keytab by whose entries the tickets of caches are matched.
 
-ghost use Rattle.std.specs.Prelude.{◌≡◌, ◌&&◌, IfOk, List, is_some, map, option_map};
+ghost use Rattle.std.specs.Prelude.{◌≡◌, IfOk, is_some, map};
 ghost use Rattle.std.specs.Vec.{vec_items};
-ghost use Rattle.krb_keytab.specs.Find.{PlacedEntry, placed_entries};
-ghost use Rattle.krb_match.specs.Looking.{IsNear};
+ghost use Rattle.krb_keytab.specs.Find.{placed_entries};
 ghost use Rattle.krb_match.specs.Names.{AreNames, entry_text};
 ghost use Rattle.krb_match.specs.Tickets.{matched_tickets, near_ticket};
 
@@ -16,17 +15,6 @@ use krb_keytab::Keytab;
 use krb_wire::NoMemory;
 use std::alloc::Allocator;
 use std::marker::Model;
-
-// Returns those names if they are wanted.
-fn near_if<'m, 'k, A: Allocator>(
-    wanted: bool,
-    near: &'m Option<NearNames<'k, A>>,
-) -> Option<&'m NearNames<'k, A>>
-    ensures near { (xs : List PlacedEntry) → IsNear xs near.now → IsNear xs (option_map (λ names. names.now) result) }
-    ensures wanted { is_some result ≡ (wanted && is_some near.now) }
-{
-    if wanted { near.as_ref() } else { None }
-}
 
 /// A keytab by whose entries the tickets of caches are matched; it may also name an entry after those of whose name it has
 /// none.
@@ -69,20 +57,17 @@ impl<'k, A: Allocator + Copy> Matcher<'k, A> {
     }
 
     /// Returns the tickets of a cache that are looked at, each with what is said of it: those that are asked for by their
-    /// names as these are printed, or all of services if there are none. If `names_near`, also the entry that is named.
+    /// names as these are printed, or all of services if there are none. Also the entry that is named.
     pub fn judge<B: Allocator>(
         &self,
         alloc: A,
         names: &[Vec<u8, B>],
-        names_near: bool,
         cache: &Ccache<A>,
     ) -> Result<Matched<A>, NoMemory>
         ensures tickets { IfOk result (λ m. m.tickets.items ≡ matched_tickets (map vec_items names.now) self.now.0 cache.now.state) }
-        ensures near { IfOk result (λ m. m.near
-            ≡ near_ticket (names_near && self.now.1) (map vec_items names.now) self.now.0 cache.now.state) }
+        ensures near { IfOk result (λ m. m.near ≡ near_ticket self.now.1 (map vec_items names.now) self.now.0 cache.now.state) }
     {
-        let near = near_if(names_near, &self.near);
-        Ok(match_tickets(alloc, &self.classes, near, names, cache)?)
+        Ok(match_tickets(alloc, &self.classes, &self.near, names, cache)?)
     }
 
     /// Returns the name of the entry with a number as it is printed, or nothing if there is none.

@@ -79,11 +79,11 @@ words_shown o wrong ts = if o.json && (o.quiet && not wrong) then none else word
 abbrev pub is_found_wrong : Bool → List MatchedParts → Option Fault → Bool
 is_found_wrong are_several ts fault = are_wrong ts || (is_some fault || ((length ts == 0) && not are_several))
 
--- the verdict on tickets of one of several caches, or of the only one, after those words were explained
-abbrev pub judged_of : {A : Type 0} → MatchOptions A → Bool → FindingSet → List MatchedParts → Option ℕ → Option Fault → Found
-judged_of o are_several explained ts near fault = record {
-  words = without (words_shown o (is_found_wrong are_several ts fault) ts) explained;
-  near = near;
+-- the verdict on tickets of one of several caches, or of the only one, if that is known of the caches before
+abbrev pub judged_of : {A : Type 0} → MatchOptions A → Bool → MatchState → List MatchedParts → Option ℕ → Option Fault → Found
+judged_of o are_several before ts near fault = record {
+  words = without (words_shown o (is_found_wrong are_several ts fault) ts) before.explained;
+  near = if before.is_named then None else near;
   fault = fault;
   is_wrong = is_found_wrong are_several ts fault;
   is_without = length ts == 0;
@@ -112,7 +112,7 @@ module _ {A : Type 0} (o : MatchOptions A) (keytab : List ℕ) (are_several : Bo
     page_due file k =
         let names : List (List ℕ) = map vec_items o.names.items in
         let ts : List MatchedParts = matched_tickets names m.0 k in
-        page_of file ts (judged_of o are_several s.explained ts (near_ticket (not s.is_named && m.1) names m.0 k) (fault_of (cache_store k)))
+        page_of file ts (judged_of o are_several s ts (near_ticket m.1 names m.0 k) (fault_of (cache_store k)))
 
     -- a cache is tried, and what the keytab says of its tickets is shown
     abbrev pub match_plan : FileName → CommandPlan

@@ -72,8 +72,8 @@ fn shown<'a, 'f, A: Allocator + Copy, B: Allocator>(
         (made_effect (file_page match_page) file.entry.name.now result) }
 {
     let (options, matcher, several) = (command.options, command.matcher, command.are_several);
-    let matched = matcher.judge(alloc, &options.names, !state.is_named, cache)?;
-    let judged = judged_of(options, several, state.explained, &matched, cache.fault());
+    let matched = matcher.judge(alloc, &options.names, cache)?;
+    let judged = judged_of(options, several, state, &matched, cache.fault());
     let page = page_of(alloc, command, file, matched.tickets, judged)?;
     Ok(Made::Shows(page))
 }

@@ -4,6 +4,7 @@ ghost use Rattle.std.specs.Prelude.{◌≡◌, ◌++◌, OnOk};
 ghost use Rattle.krb_audit.specs.Report.{labelled_fault};
 ghost use Rattle.krb_readers.specs.Ktmatch.{are_wrong, judged_of, line_of, lines_of, is_shown, sought, words_of, words_shown, words_with};
 
+use crate::ktmatch::state::MatchState;
 use crate::ktmatch::words::MatchOptions;
 use krb_driver::{Judged, TicketsSought};
 use krb_findings::FindingSet;
@@ -119,22 +120,22 @@ fn words_shown<A: Allocator, B: Allocator>(
     words_of(options.quiet && !options.json, tickets)
 }
 
-/// Returns the verdict on the tickets of a cache with that fault, if these words were explained before.
+/// Returns the verdict on the tickets of a cache with that fault, if that is known of the caches before.
 pub fn judged_of<A: Allocator, B: Allocator>(
     options: &MatchOptions<B>,
     are_several: bool,
-    explained: FindingSet,
+    before: MatchState,
     matched: &Matched<A>,
     fault: Option<Fault>,
 ) -> Judged
-    ensures { result ≡ judged_of options.now are_several explained matched.now.tickets.items matched.now.near fault }
+    ensures { result ≡ judged_of options.now are_several before matched.now.tickets.items matched.now.near fault }
 {
     let is_without = matched.tickets.is_empty();
     let is_alone = is_without && !are_several;
     let is_wrong = are_wrong(&matched.tickets) || fault.is_some() || is_alone;
     Judged {
-        words: words_shown(options, is_wrong, &matched.tickets).without(explained),
-        near: matched.near,
+        words: words_shown(options, is_wrong, &matched.tickets).without(before.explained),
+        near: if before.is_named { None } else { matched.near },
         fault,
         is_wrong,
         is_without,

@@ -8,7 +8,7 @@ use Rattle.krb_match.proofs.looking.match_tickets.Goals as goal
 pub credentials-preserved : goal.credentials-preserved
 credentials-preserved g c = λ xs keys near.
     let texts = map vec_items c.args.names.now in
-    let wanted = is_some c.args.near in
+    let wanted = is_some c.args.near.now in
     let all = looked_at texts xs (placed_credentials c.args.cache.now.state) in
     let m = c.credentials.matched in
     let h = c.credentials.invariant xs keys near in
@@ -18,7 +18,7 @@ credentials-preserved g c = λ xs keys near.
 pub returns : goal.returns
 returns g c = λ xs keys near.
     let texts = map vec_items c.args.names.now in
-    let wanted = is_some c.args.near in
+    let wanted = is_some c.args.near.now in
     let all = looked_at texts xs (placed_credentials c.args.cache.now.state) in
     let m = c.credentials.matched in
     all_added wanted xs all m.tickets.items m.near (subst (λ (cs : List PlacedCredential). AreMatched wanted xs (looked_at texts xs cs) all m.tickets.items m.near) c.in-None.ensures.steps.0 (c.credentials.invariant xs keys near).1)
