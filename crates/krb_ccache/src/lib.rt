@@ -33,5 +33,5 @@ pub use laws::{
 };
 pub use offset::Offset;
 pub use open::{CcOpenFault, CcOpenRefused};
-pub use ticket::{TicketEncryption, TicketServer, ticket_encryption, ticket_server};
+pub use ticket::{TicketEncryption, TicketServer, read_own, ticket_encryption, ticket_server};
 pub use version::Version;

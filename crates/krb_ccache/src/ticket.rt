@@ -1,13 +1,13 @@
 //! What a ticket has in its own bytes: its encryption and its server. Its tags are 0x61, [APPLICATION 1], 0x30, SEQUENCE,
 //! 0x1b, GeneralString, and for a field [0] 0xa0 and so on.
 
-ghost use Rattle.std.specs.Prelude.{◌≡◌, IfOk};
+ghost use Rattle.std.specs.Prelude.{◌≡◌, IfOk, IsTrue};
 ghost use Rattle.krb_wire.specs.Reading.{Gives, principal_parts};
 ghost use Rattle.krb_ccache.specs.Der.{signed};
 ghost use Rattle.krb_ccache.specs.Ticket.{int32_of, kvno_of, kvno_at, encrypted_data, ticket_in, ticket_encryption, server_in, ticket_server, server_parts};
 
 use crate::der::{Integer, Strings, read_element, read_strings, split_element, split_integer};
-use krb_wire::{NoMemory, Principal};
+use krb_wire::{Components, Name, NoMemory, Principal, PrincipalView};
 use std::alloc::Allocator;
 
 /// How a ticket is encrypted, by its own bytes.
@@ -26,7 +26,29 @@ pub struct TicketServer<'a> {
     pub components: Strings<'a>,
 }
 
+// Returns whether strings are those components.
+fn are_same<A: Allocator>(mut strings: Strings<'_>, components: Components<'_, A>) -> bool
+    ensures { IsTrue result → strings.entry ≡ components.entry }
+{
+    'components: for component in components {
+        match strings.next() {
+            Some(string) if string == component => {}
+            _ => return false,
+        }
+    }
+    strings.next().is_none()
+}
+
 impl TicketServer<'_> {
+    /// Returns whether it is that name, and has its type.
+    pub fn is(self, name: &PrincipalView<'_>) -> bool
+        ensures { IsTrue result → server_parts self.entry ≡ name.now }
+    {
+        self.name_type.cast_unsigned() == name.name_type()
+            && self.realm == name.realm()
+            && are_same(self.components, name.components())
+    }
+
     /// Returns an owned copy.
     pub fn copy<A: Allocator + Copy>(self, alloc: A) -> Result<Principal<A>, NoMemory>
         ensures { IfOk result (λ p. principal_parts p ≡ server_parts self.entry) }
@@ -103,6 +125,18 @@ fn read_ticket(ticket: &[u8]) -> Option<(&[u8], &[u8], TicketEncryption)>
     let (sname, rest) = split_element(0xa2, rest)?;
     let encrypted = read_element(0x30, read_element(0xa3, rest)?)?;
     Some((realm, sname, encrypted_data(encrypted)?))
+}
+
+/// Returns both in one pass: the server that a ticket names itself, and how it is encrypted.
+#[tactic(auto, unfolding(crate::specs::Ticket::ticket_server, crate::specs::Ticket::ticket_encryption))]
+pub fn read_own(ticket: &[u8]) -> (Option<TicketServer<'_>>, Option<TicketEncryption>)
+    ensures server { Gives server_parts result.0 (ticket_server ticket.now) }
+    ensures encryption { result.1 ≡ ticket_encryption ticket.now }
+{
+    match read_ticket(ticket) {
+        Some((realm, sname, encryption)) => (server_in(realm, sname), Some(encryption)),
+        None => (None, None),
+    }
 }
 
 /// Returns how a ticket is encrypted (RFC 4120 5.3), or `None` if the bytes are not one in DER.

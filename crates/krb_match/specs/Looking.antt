@@ -1,8 +1,6 @@
 -- What is known while the tickets of a cache are looked at.
 use Rattle.std.specs.Prelude.{◌≡◌, ⊤, ℕ, List, ◌++◌, map, is_some, Bool, true, false, not, ◌==◌, length, if◌then◌else◌, Option, None, Some, IfSome}
 use Rattle.std.specs.Option.{option_or}
-use Rattle.krb_wire.specs.Reading.{principal_parts}
-use Rattle.krb_wire.specs.declared.principal.Principal.{Principal}
 use Rattle.krb_keytab.specs.Find.{PlacedEntry, placed_entries}
 use Rattle.krb_keytab.specs.Store.{KeytabState}
 use Rattle.krb_ccache.specs.Store.{PlacedCredential}
@@ -10,7 +8,6 @@ use Rattle.krb_audit.specs.Selection.{AsksFor}
 use Rattle.krb_match.specs.declared.looking.Judge.{Judge}
 use Rattle.krb_match.specs.declared.keys.Keys.{Keys}
 use Rattle.krb_match.specs.declared.near.NearNames.{NearNames}
-use Rattle.krb_match.specs.Match.{name_of}
 use Rattle.krb_match.specs.Names.{bare_key, folded_key}
 use Rattle.krb_match.specs.Near.{AreNear}
 use Rattle.krb_match.specs.Table.{AreKeys}
@@ -34,10 +31,10 @@ pub record JudgesBy {A : Type 0} (texts : List (List ℕ)) (wanted : Bool) (xs :
 abbrev pub IsJudge : {A : Type 0} → List (List ℕ) → Bool → List PlacedEntry → Judge A → Type 0
 IsJudge texts wanted xs judge = JudgesBy texts wanted xs judge.names.names judge.asks judge.classes.now judge.keys judge.near.now
 
--- a ticket that is looked at, and its name, or nothing
-abbrev pub IsSaid : {A : Type 0} → List (List ℕ) → List PlacedEntry → PlacedCredential → Option (Principal A × MatchedParts) → Type 0
+-- a ticket that is looked at, or nothing
+abbrev pub IsSaid : List (List ℕ) → List PlacedEntry → PlacedCredential → Option MatchedParts → Type 0
 IsSaid texts xs c None = is_looked_at texts xs c.1 ≡ false
-IsSaid texts xs c (Some (p, t)) = (is_looked_at texts xs c.1 ≡ true) × (principal_parts p ≡ name_of c.1) × (t ≡ matched xs c)
+IsSaid texts xs c (Some t) = (is_looked_at texts xs c.1 ≡ true) × (t ≡ matched xs c)
 
 -- the tickets so far, with the rest of those looked at, are all of those
 pub record AreMatched (wanted : Bool) (xs : List PlacedEntry) (rest all : List PlacedCredential) (tickets : List MatchedParts) (near : Option ℕ) : Type 0 where

@@ -3,7 +3,6 @@
 ghost use Rattle.std.specs.Prelude.{◌≡◌, ◌∷◌, ℕ, Bool, IfOk, OnOk, List, if◌then◌else◌, is_some, map, None};
 ghost use Rattle.std.specs.Option.{option_or};
 ghost use Rattle.std.specs.Vec.{vec_items};
-ghost use Rattle.krb_wire.specs.Reading.{principal_parts};
 ghost use Rattle.krb_wire.specs.Spelling.{Parts};
 ghost use Rattle.krb_keytab.specs.Find.{PlacedEntry, placed_entries};
 ghost use Rattle.krb_ccache.specs.Ticket.{ticket_encryption};
@@ -19,10 +18,10 @@ use crate::judgement::Judgement;
 use crate::keys::Keys;
 use crate::names::key_over;
 use crate::near::NearNames;
-use crate::ticket::{MatchedTicket, name_of};
+use crate::ticket::{MatchedTicket, name_of, names_server};
 use krb_audit::{NameFilter, is_of_gssproxy, is_service};
-use krb_ccache::{Ccache, CredView, TicketEncryption, is_config, ticket_encryption};
-use krb_wire::{NoMemory, Principal};
+use krb_ccache::{Ccache, CredView, TicketEncryption, is_config, read_own};
+use krb_wire::{Name, NoMemory};
 use std::alloc::Allocator;
 
 /// The tickets of a cache that are looked at, and the number of the entry that is named after them.
@@ -47,16 +46,16 @@ struct Judge<'m, 'k, 't, A: Allocator> {
 
 impl<'k, A: Allocator + Copy> Judge<'_, 'k, '_, A> {
     // Returns whether a ticket of that name, which has that key, is asked for.
-    fn asks_for(
+    fn asks_for<N: Name>(
         &mut self,
         ticket: &CredView<'_>,
-        name: &Principal<A>,
+        name: &N,
         key: &[u8],
     ) -> Result<bool, NoMemory>
         ensures kept { (texts : List (List ℕ)) (wanted : Bool) (xs : List PlacedEntry) → IsJudge texts wanted xs self.old
             → IsJudge texts wanted xs self.new }
         ensures asked { (texts : List (List ℕ)) (wanted : Bool) (xs : List PlacedEntry) → IsJudge texts wanted xs self.old
-            → principal_parts name.now ≡ name_of ticket.now → key.now ≡ name_key (principal_parts name.now)
+            → N.parts name.now ≡ name_of ticket.now → key.now ≡ name_key (N.parts name.now)
             → IfOk result (λ b. b ≡ is_asked texts xs ticket.now) }
     {
         if self.asks {
@@ -121,48 +120,46 @@ impl<'k, A: Allocator + Copy> Judge<'_, 'k, '_, A> {
         }
     }
 
-    // Returns a ticket that is looked at, and its name.
-    fn looked_at(
+    // Returns a ticket of that name and encryption if it is looked at.
+    fn looked_at<N: Name>(
         &mut self,
         place: u32,
         ticket: &CredView<'_>,
-    ) -> Result<Option<(Principal<A>, MatchedTicket<A>)>, NoMemory>
+        name: &N,
+        encryption: Option<TicketEncryption>,
+    ) -> Result<Option<MatchedTicket<A>>, NoMemory>
         ensures kept { (texts : List (List ℕ)) (wanted : Bool) (xs : List PlacedEntry) → IsJudge texts wanted xs self.old
             → IsJudge texts wanted xs self.new }
         ensures said { (texts : List (List ℕ)) (wanted : Bool) (xs : List PlacedEntry) → IsJudge texts wanted xs self.old
+            → N.parts name.now ≡ name_of ticket.now → encryption ≡ ticket_encryption ticket.now.ticket
             → IfOk result (IsSaid texts xs (place, ticket.now)) }
     {
         if is_config(ticket) || is_of_gssproxy(ticket.server()) {
             return Ok(None);
         }
-        let name = name_of(self.alloc, ticket)?;
-        let key = key_over(self.alloc, &name, &mut self.scratch)?;
-        if !self.asks_for(ticket, &name, &key)? {
+        let key = key_over(self.alloc, name, &mut self.scratch)?;
+        if !self.asks_for(ticket, name, &key)? {
             return Ok(None);
         }
-        let encryption = ticket_encryption(ticket.ticket());
         let judgement = self.judge(ticket, encryption, &key)?;
-        Ok(Some((
-            name,
-            MatchedTicket {
-                place,
-                encryption,
-                key,
-                judgement,
-            },
-        )))
+        Ok(Some(MatchedTicket {
+            place,
+            encryption,
+            key,
+            judgement,
+        }))
     }
 
     // Returns the number of the entry that is named once there is a ticket of that name: the one before, or an entry whose
     // name is nearly that, if the keytab has none of it.
-    fn near_with(
+    fn near_with<N: Name>(
         &self,
         near: Option<usize>,
-        name: &Principal<A>,
+        name: &N,
         judgement: &Judgement,
     ) -> Result<Option<usize>, NoMemory>
         ensures { (texts : List (List ℕ)) (wanted : Bool) (xs : List PlacedEntry) → IsJudge texts wanted xs self.now
-            → IfOk result (λ n. n ≡ option_or near (if wanted then near_by xs (principal_parts name.now) judgement.now else None)) }
+            → IfOk result (λ n. n ≡ option_or near (if wanted then near_by xs (N.parts name.now) judgement.now else None)) }
     {
         match (near, self.near, judgement) {
             (None, Some(names), Judgement::Name) => names.index(self.alloc, name),
@@ -172,7 +169,33 @@ impl<'k, A: Allocator + Copy> Judge<'_, 'k, '_, A> {
 }
 
 impl<A: Allocator + Copy> Matched<A> {
-    // Adds the next credential if it is looked at.
+    // Adds the next credential if it is a ticket that is looked at, under that name and with that encryption.
+    fn add_as<N: Name>(
+        &mut self,
+        judge: &mut Judge<'_, '_, '_, A>,
+        place: u32,
+        ticket: &CredView<'_>,
+        name: &N,
+        encryption: Option<TicketEncryption>,
+    ) -> Result<(), NoMemory>
+        ensures kept { (texts : List (List ℕ)) (wanted : Bool) (xs : List PlacedEntry) → IsJudge texts wanted xs judge.old
+            → IsJudge texts wanted xs judge.new }
+        ensures matched { (texts : List (List ℕ)) (wanted : Bool) (xs : List PlacedEntry) (rest all : List PlacedCredential)
+            → IsJudge texts wanted xs judge.old
+            → N.parts name.now ≡ name_of ticket.now → encryption ≡ ticket_encryption ticket.now.ticket
+            → AreMatched wanted xs (looked_at texts xs ((place, ticket.now) ∷ rest)) all self.old.tickets.items self.old.near
+            → OnOk result (AreMatched wanted xs (looked_at texts xs rest) all self.new.tickets.items self.new.near) }
+    {
+        match judge.looked_at(place, ticket, name, encryption)? {
+            Some(ticket) => {
+                self.near = judge.near_with(self.near, name, &ticket.judgement)?;
+                Ok(self.tickets.push(ticket)?)
+            }
+            None => Ok(()),
+        }
+    }
+
+    // Adds the next credential if it is looked at. Most tickets name their credential's server, whose name needs no copy.
     fn consider(
         &mut self,
         judge: &mut Judge<'_, '_, '_, A>,
@@ -186,13 +209,12 @@ impl<A: Allocator + Copy> Matched<A> {
             → AreMatched wanted xs (looked_at texts xs ((place, ticket.now) ∷ rest)) all self.old.tickets.items self.old.near
             → OnOk result (AreMatched wanted xs (looked_at texts xs rest) all self.new.tickets.items self.new.near) }
     {
-        match judge.looked_at(place, ticket)? {
-            Some((name, ticket)) => {
-                self.near = judge.near_with(self.near, &name, &ticket.judgement)?;
-                Ok(self.tickets.push(ticket)?)
-            }
-            None => Ok(()),
+        let (own, encryption) = read_own(ticket.ticket());
+        if names_server(own, ticket) {
+            return self.add_as(judge, place, ticket, ticket.server(), encryption);
         }
+        let name = name_of(judge.alloc, ticket)?;
+        self.add_as(judge, place, ticket, &name, encryption)
     }
 }
 

@@ -1,12 +1,13 @@
 //! The tickets of a cache that are looked at.
 
-ghost use Rattle.std.specs.Prelude.{◌≡◌, IfOk};
-ghost use Rattle.krb_wire.specs.Reading.{principal_parts};
+ghost use Rattle.std.specs.Prelude.{◌≡◌, IfOk, IsTrue};
+ghost use Rattle.krb_wire.specs.Reading.{Gives, principal_parts};
+ghost use Rattle.krb_ccache.specs.Ticket.{server_parts, ticket_server};
 ghost use Rattle.krb_match.specs.Match.{name_of};
 
 use crate::judgement::Judgement;
 use crate::names::text_of;
-use krb_ccache::{CredView, TicketEncryption, ticket_server};
+use krb_ccache::{CredView, TicketEncryption, TicketServer, ticket_server};
 use krb_wire::{NoMemory, Principal, copy_name};
 use std::alloc::Allocator;
 use std::marker::Model;
@@ -37,6 +38,16 @@ impl<A: Allocator> MatchedTicket<A> {
         ensures { result.now ≡ self.now.name }
     {
         text_of(&self.key)
+    }
+}
+
+/// Returns whether a ticket names no other server than its credential's.
+pub fn names_server(own: Option<TicketServer<'_>>, ticket: &CredView<'_>) -> bool
+    ensures { Gives server_parts own.entry (ticket_server ticket.now.ticket) → IsTrue result → ticket.now.server ≡ name_of ticket.now }
+{
+    match own {
+        Some(server) => server.is(ticket.server()),
+        None => true,
     }
 }
 
