@@ -1,8 +1,7 @@
 -- Names that are missing, as the code holds them, and as the definitions have them.
-use Rattle.krb_audit.proofs.Cited.{◌≡◌, ◌≢◌, ℕ, Bool, true, false, cond, List, [], ◌∷◌, ◌++◌, Some, refl, sym, ap, subst, ◌∙◌, ◌||◌, ◌&&◌, not, filter, fold, list_any, list_any-append, map, map_push, append-nil, bytes_eq, PlacedEntry, ◌<◌, ◌+◌, arith, take, get_or, length, vec_items, Parts, have_same_name, first_from, first_number, get_or-map, length-map, take_more, filter-append, list_any_at, nat_list_eq_equiv, bytes_eq-Decides, slice_eq-Decides, Vec, Bor, name_text, and_both, AreMarked, is_among, added_once, prints_as}
+use Rattle.krb_audit.proofs.Cited.{◌≡◌, ℕ, Bool, true, false, cond, List, [], ◌∷◌, ◌++◌, refl, sym, ap, subst, ◌∙◌, ◌||◌, ◌&&◌, not, filter, fold, list_any, list_any-append, map, map_push, append-nil, bytes_eq, PlacedEntry, ◌<◌, ◌+◌, arith, take, get_or, length, vec_items, Parts, get_or-map, length-map, take_more, filter-append, list_any_at, nat_list_eq_equiv, bytes_eq-Decides, Vec, Bor, name_text, AreMarked, is_among, added_once, prints_as}
 use Rattle.std.proofs.lemmas.List.Sums.{fold-append}
 use Rattle.krb_names.specs.declared.marks.NameMarks.{NameMarks}
-use Rattle.krb_names.proofs.SameNames.{same_equiv}
 
 -- the name of some entry prints as that text
 abbrev pub seen_in : List PlacedEntry → List ℕ → Bool

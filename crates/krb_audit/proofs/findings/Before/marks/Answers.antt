@@ -1,4 +1,4 @@
-use Rattle.krb_audit.proofs.ForAnswers.{◌≡◌, List, ℕ, cond, Option, None, Some, ap, sym, ◌∙◌, ◌∷◌, [], append_assoc, ◌&&◌, ◌||◌, not, list_any, option_map, PlacedEntry, placed_entries, Old, ends_mit, first_number, ap₂, Key, looked, same_key, clashes, first_alike, is_aged, repeats, with_if, Alike, ended_here}
+use Rattle.krb_audit.proofs.ForAnswers.{◌≡◌, List, ℕ, cond, Option, None, Some, ap, sym, ◌∙◌, ◌∷◌, [], append_assoc, ◌&&◌, ◌||◌, not, list_any, option_map, PlacedEntry, placed_entries, Old, ends_mit, ap₂, Key, looked, same_key, clashes, first_alike, is_aged, repeats, with_if, Alike, ended_here}
 use Rattle.std.specs.Prelude.{Bool}
 use Rattle.std.specs.Option.{unwrap_or}
 use Rattle.krb_text.specs.Etype.{is_weak}

@@ -1,6 +1,5 @@
 use Rattle.krb_match.proofs.Cited.{◌≡◌, ◌∙◌, ap, ap₂, subst, Bool, true, cond, [], ◌∷◌, ◌++◌, None, Parts, option_or}
 use Rattle.krb_ccache.specs.Store.{PlacedCredential}
-use Rattle.krb_match.specs.Match.{name_of}
 use Rattle.krb_match.specs.Looking.{AreMatched, IsSaid}
 use Rattle.krb_match.specs.Tickets.{MatchedParts, is_looked_at, looked_at, matched, near_by}
 use Rattle.krb_match.proofs.Adding.{added}
