@@ -1,6 +1,6 @@
 -- The cells of a store that a cursor passes.
-use Rattle.krb_walk.proofs.Cited.{◌≡◌, ℕ, ◌+◌, ◌<◌, ◌≤◌, Bool, true, false, List, [], ◌∷◌, ◌++◌, map, Option, Some, None, refl, sym, ap, ◌∙◌, arith, ◌&&◌, ◌==◌, nat_le, is_some, find, filter_map, AllByRecursion, nat_tests, leb-true, leb-false, Cell, Store, Record, standing, end_from, end_of, record_with, record_of_some, next_live, live_bytes, stop_of, stop_at, end_stop, IsSound, FaultKind, Row, row_of, stop_cursor, stop_reply, Gave}
-use Rattle.krb_walk.proofs.Stops.{next_from, next_skips, next_stops, stops_give_records}
+use Rattle.krb_walk.proofs.Cited.{◌≡◌, ℕ, ◌+◌, ◌<◌, ◌≤◌, Bool, true, false, List, [], ◌∷◌, ◌++◌, map, Option, Some, None, refl, sym, ap, ◌∙◌, arith, ◌==◌, nat_le, find, filter_map, AllByRecursion, nat_tests, leb-true, leb-false, Cell, Store, Record, standing, end_from, record_with, record_of_some, next_live, live_bytes, stop_of, stop_at, IsSound, Row, row_of, stop_cursor, stop_reply, Gave}
+use Rattle.krb_walk.proofs.Stops.{next_from, next_stops, stops_give_records}
 use Rattle.krb_walk.specs.declared.stop.Stop.TheVariants.{Live}
 
 -- the places of cells of these widths, the first at a place
@@ -22,10 +22,6 @@ stop_from at cells c = stop_cursor (end_from at cells) (next_from at cells c)
 abbrev pub rows_of_next : ℕ → Option Record → List Row
 rows_of_next n None = []
 rows_of_next n (Some r) = record { event = n; stood = r } ∷ []
-
--- a stop skips a cell that is free or before the cursor
-pub stop_skips : (at c w : ℕ) (live : Option (List ℕ)) (cells : List Cell) → (nat_le c at && is_some live) ≡ false → stop_from at (record { width = w; live = live } ∷ cells) c ≡ stop_from (at + w) cells c
-stop_skips at c w live cells e = ap (stop_cursor (end_from (at + w) cells)) (next_skips at c w live cells e)
 
 stop_from-ge : (at c : ℕ) (cells : List Cell) → at ≤ stop_from at cells c
 stop_from-ge at c [] = omega arith
@@ -53,30 +49,10 @@ find_tail at w p live cells lt = let e : (at == p) ≡ false = grind (arith, nat
 abbrev StepGives : (f g : ℕ → Option Row) (n c end at : ℕ) (cells : List Cell) (more : List ℕ) → Type 0
 StepGives f g n c end at cells more = filter_map f (spots at (map (λ x. x.width) cells ++ more)) ≡ rows_of_next n (next_from at cells c) ++ filter_map g (spots at (map (λ x. x.width) cells ++ more))
 
-step_skips : (f g : ℕ → Option Row) (n c end at w : ℕ) (live : Option (List ℕ)) (cells : List Cell) (more : List ℕ) → (nat_le c at && is_some live) ≡ false → f at ≡ None → g at ≡ None → StepGives f g n c end (at + w) cells more → StepGives f g n c end at (record { width = w; live = live } ∷ cells) more
-step_skips f g n c end at w live cells more skip no_f no_g ih = rw (no_f, no_g, next_skips at c w live cells skip) ih
-
 step_cons : (f g : ℕ → Option Row) (n c end at w : ℕ) (live : Option (List ℕ)) (b : Bool) (cells : List Cell) (more : List ℕ) (found : ℕ → Option Record) → (nat_le c at ≡ b) → StepsRows f g n c end found
     → 0 < w → ((p : ℕ) → at ≤ p → found p ≡ live_from at (record { width = w; live = live } ∷ cells) p) → end ≡ stop_from at (record { width = w; live = live } ∷ cells) c
     → (end ≡ stop_from (at + w) cells c → StepGives f g n c end (at + w) cells more) → StepGives f g n c end at (record { width = w; live = live } ∷ cells) more
-step_cons f g n c end at w None true cells more found e steps some look is_end ih =
-    let skip : (nat_le c at && false) ≡ false = grind (arith, nat_tests) in
-    let ends : end ≡ stop_from (at + w) cells c = is_end ∙ stop_skips at c w None cells skip in
-    let lt : at < end = omega (arith, stop_from-ge (at + w) c cells) in
-    let no_f : f at ≡ None = steps.passed at (leb-true c at e) lt ∙ ap (row_of n) (look at (omega arith) ∙ find_head at w None cells) in
-    step_skips f g n c end at w None cells more skip no_f (steps.none at lt) (ih ends)
-step_cons f g n c end at w (Some bytes) true cells more found e steps some look is_end ih =
-    let le : c ≤ at = leb-true c at e in
-    let ends : end ≡ at + w = is_end ∙ ap (stop_cursor (end_from (at + w) cells)) (next_stops at c w bytes cells le) in
-    let lt : at < end = omega arith in
-    let some_f : f at ≡ Some (record { event = n; stood = record { place = at; next = at + w; bytes = bytes } }) = steps.passed at le lt ∙ ap (row_of n) (look at (omega arith) ∙ find_head at w (Some bytes) cells) in
-    let rest = same_from f g (at + w) (map (λ x. x.width) cells ++ more) (λ p h. steps.ahead p (omega arith)) in
-    rw (some_f, steps.none at lt, next_stops at c w bytes cells le, rest) refl
-step_cons f g n c end at w live false cells more found e steps some look is_end ih =
-    let skip : (nat_le c at && is_some live) ≡ false = rw e refl in
-    let lt : at < c = leb-false c at e in
-    let lt_end : at < end = omega (arith, steps.forward) in
-    step_skips f g n c end at w live cells more skip (steps.behind at lt) (steps.none at lt_end) (ih (is_end ∙ stop_skips at c w live cells skip))
+step_cons f g n c end at w live b cells more found e steps some look is_end ih = search (arith, stop_from-ge, leb-true, find_head, next_stops, same_from, leb-false)
 
 -- a step's row comes before the rows of the rest
 pub step_gives : (f g : ℕ → Option Row) (n c end at : ℕ) (cells : List Cell) (more : List ℕ) (found : ℕ → Option Record) → StepsRows f g n c end found → AllByRecursion (λ x. 0 < x.width) cells
@@ -92,11 +68,8 @@ pub record StopsLive (s : Store) (c p n : ℕ) : Type 0 where
   pub next : next_live s c ≡ Some (record { place = p; next = n; bytes = bytes })
   pub is_there : live_bytes s p ≡ Some bytes
 
-live_no_end : (p n end : ℕ) (fault : Option FaultKind) → Live p n ≡ end_stop end fault → ⊥
-live_no_end p n end fault e = search arith
-
 stops_live_of : (s : Store) (c p n : ℕ) (found : Option Record) → IsSound s → next_live s c ≡ found → Live p n ≡ stop_of s found → StopsLive s c p n
-stops_live_of s c p n None sound is e = absurd (live_no_end p n (end_of s) s.fault e)
+stops_live_of s c p n None sound is e = absurd (search arith)
 stops_live_of s c p n (Some r) sound is e =
     let place : r.place ≡ p = cc in
     let after : r.next ≡ n = cc in

@@ -2,7 +2,7 @@
 pub use Rattle.std.proofs.Common.{ap, ◌∙◌, sym, ◌≡◌, List, ℕ, [], refl, arith, Option, ◌∷◌, Some, None, true, false, subst, ◌++◌, ◌≤◌, Bool, ◌<◌, length, ◌+◌, inr, inl, suc, map, cond, take, zero, ◌≢◌, Result, Ok, Err, drop, append_assoc, set, replicate, get_or}
 pub use Rattle.std.proofs.lemmas.Bool.{leb-true, leb-false, le-leb, lt-leb}
 pub use Rattle.std.proofs.lemmas.Bool.Decides.{nat_tests}
-pub use Rattle.std.proofs.lemmas.List.{append-nil, length-append, map-append, length-map, take-append-drop, take_all, length-take-le, length-take, take_more}
+pub use Rattle.std.proofs.lemmas.List.{append-nil, length-append, map-append, length-map, take-append-drop, take_all, length-take-le, length-take, length-drop, take_more}
 pub use Rattle.std.specs.List.{AllByRecursion, filter_map, list_any, find, drop-map, cons_option, take-map}
 pub use Rattle.std.specs.Option.{option_to_list, option_or, option_map}
 pub use Rattle.std.specs.Prelude.{◌==◌, ◌&&◌, nat_lt, nat_le, ◌⊎◌, slice_get, filter, is_some, ◌||◌, IsSomeAnd, IsSome, IfOk, OnErr, slice_set, OnOk, insert, remove}

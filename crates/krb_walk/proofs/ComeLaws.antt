@@ -1,13 +1,12 @@
 -- The laws of records, over rewrites too.
-use Rattle.krb_walk.proofs.Cited.{◌≡◌, ℕ, suc, ◌+◌, ◌<◌, ◌≤◌, Bool, true, false, cond, List, [], ◌∷◌, ◌++◌, length, take, drop, Option, Some, None, inl, inr, refl, sym, ap, ◌∙◌, subst, arith, ◌&&◌, ◌==◌, ◌⊎◌, nat_le, nat_lt, IsSome, AllByRecursion, list_any, nat_tests, length-append, Store, end_of, IsSound, live_places, Puts, Cuts, Changes, ReplyContent, Placed, Gone, completes, is_step_reply, is_rewritten, Row, rows_of_reply, RecordName, WalkEvent, Track, first_names, names_after, IsWalkEvent, IsTrack, IsWalk, rows_at_event, OneRow, begins, is_name, place_among, place_of, place_at_first, rows_at_some, rows_here, rows_of, passes_record, turn_of, HasTurn, IsAliveUntilDone, IsCutBefore, IsAddedAt, EachComesAsDue, flat_map-append}
+use Rattle.krb_walk.proofs.Cited.{◌≡◌, ℕ, suc, ◌+◌, ◌<◌, ◌≤◌, Bool, true, false, cond, List, [], ◌∷◌, ◌++◌, length, take, drop, Option, Some, None, inl, inr, refl, sym, ap, ◌∙◌, subst, arith, ◌&&◌, ◌==◌, ◌⊎◌, nat_le, nat_lt, IsSome, AllByRecursion, list_any, nat_tests, length-append, Store, end_of, IsSound, live_places, Puts, Cuts, Changes, ReplyContent, Placed, Gone, completes, is_step_reply, is_rewritten, Row, RecordName, WalkEvent, Track, first_names, names_after, IsWalkEvent, IsTrack, IsWalk, OneRow, is_name, place_among, place_of, rows_here, rows_of, passes_record, turn_of, HasTurn, IsAliveUntilDone, IsAddedAt, EachComesAsDue, flat_map-append}
 use Rattle.krb_walk.proofs.Lives.{lives_lt, puts_insert, cuts_insert}
 use Rattle.krb_walk.proofs.Names.{any_lt, apart}
-use Rattle.krb_walk.proofs.WalkEvents.{end_of_step, effect_of, ends_of, completes_stepped, carry_by-same, carry_by-own}
+use Rattle.krb_walk.proofs.WalkEvents.{find_later, find_first, end_of_step, effect_of, carry_by-same, carry_by-own}
 use Rattle.krb_walk.proofs.Carries.{le_or}
 use Rattle.krb_walk.proofs.Ranked.{Keeps, first_keeps, unborn, among_none, among_remove, Still, still_after}
-use Rattle.krb_walk.proofs.Comes.{among_any, among_born, keeps_here, keeps_next, place_here, passes_none, passes_by, passes_alive, turn_later, turn_first, Comes, behind_none, comes, at_most_one, turn_if_row, row_if_turn, none_if}
+use Rattle.krb_walk.proofs.Comes.{among_any, among_born, keeps_here, keeps_next, place_here, passes_none, Comes, behind_none, comes, at_most_one, turn_if_row, row_if_turn, none_if, track_rest, track_front, keeps_rest, split_at}
 use Rattle.krb_walk.proofs.Unique.{one_turn}
-use Rattle.krb_walk.proofs.Parts.{track_rest, track_front, keeps_rest, split_at}
 use Rattle.krb_walk.proofs.Order.{in_order}
 
 empty_by : (rows : List Row) (row : Row) → length (rows ++ row ∷ []) ≤ 1 → rows ≡ []
@@ -31,10 +30,10 @@ ahead_on : (was is : Option ℕ) (c d p : ℕ) → (is ≡ None) ⊎ Still was i
 ahead_on was is c d p h at le is_there q e = search arith
 
 has_now : (r : RecordName) (x : WalkEvent) (xs : Track) → passes_record r x ≡ true → HasTurn r (x ∷ xs)
-has_now r x xs e = record { at = x; is = turn_first r x xs e; alive = passes_alive r x e }
+has_now r x xs e = record { at = x; is = find_first (passes_record r) x xs e; alive = search arith }
 
 has_later : (r : RecordName) (x : WalkEvent) (xs : Track) → passes_record r x ≡ false → HasTurn r xs → HasTurn r (x ∷ xs)
-has_later r x xs e has = record { at = has.at; is = turn_later r x xs e ∙ has.is; alive = has.alive }
+has_later r x xs e has = record { at = has.at; is = find_later (passes_record r) x xs e ∙ has.is; alive = has.alive }
 
 step_has : (r : RecordName) (n : ℕ) (s : Store) (names : List RecordName) (c : Option ℕ) (x : WalkEvent) (t : Track) (start p : ℕ) (b : Bool) → passes_record r x ≡ b → IsWalkEvent n s names c x → Keeps n s names → c ≡ Some start → place_of r x ≡ Some p → start ≤ p
     → HasPlace (place_among r (names_after x.number x.reply x.before x.after x.names) (live_places x.after))
@@ -50,7 +49,7 @@ step_has r n s names c x t start p false e h k at is le is_there ih =
       | inr goes ↦ (
           let same : start ≡ goes.at = cc (at, goes.stood, h.from) in
           let to = end_of_step x goes.at in
-          let missed : (nat_le goes.at p && nat_lt p to) ≡ false = sym (passes_by r x p goes.at _ goes.stepped is goes.stood goes.is_there) ∙ e in
+          let missed : (nat_le goes.at p && nat_lt p to) ≡ false = sym (search arith) ∙ e in
           let near : to ≤ p = grind (arith, nat_tests) in
           let on = ahead_on _ _ to _ p (still_after x.number x.reply x.before x.after x.names r to h.sound h.changes kx born) is near is_there is_there.at is_there.is in
           ih to is_there.at goes.is_there is_there.is (omega (arith, on, carry_by-own x.walk x.reply x.before x.after to goes.own)))
@@ -62,20 +61,14 @@ done_has r n s names c [] done later last start p h k at is le all some complete
     let here = place_here r n s names c done h.0 ∙ is in
     let inside = any_lt (end_of done.before) p (live_places done.before) (lives_lt done.before.first done.before.cells h.0.sound) (among_any r done.names (live_places done.before) p here) in
     let passed : (nat_le start p && nat_lt p (end_of done.before)) ≡ true = grind (arith, nat_tests) in
-    has_now r done later (passes_by r done p start _ (completes_stepped done h.0.effect completed) here (h.0.from ∙ at) (ends_of done h.0.effect completed) ∙ passed)
+    has_now r done later ((search arith) ∙ passed)
 done_has r n s names c (x ∷ steps) done later last start p h k at is le all some completed =
     let is_there = place_next r (suc n) x.after _ x.to steps done later last h.1 all.1 some in
     step_has r n s names c x (steps ++ done ∷ later) start p (passes_record r x) refl h.0 k at (place_here r n s names c x h.0 ∙ is) le is_there
     (λ next q to there near. done_has r (suc n) x.after _ x.to steps done later last next q h.1 (keeps_next n s names c x h.0 k) to there near all.1 some completed)
 
-begins_is : (n : ℕ) (s : Store) (names : List RecordName) (c : Option ℕ) (u : Track) (last : Store) (d : ℕ) → IsTrack n s names c u last → begins u ≡ Some d → c ≡ Some d
-begins_is n s names c u last d h is = search arith
-
-first_is : (r : RecordName) (n : ℕ) (s : Store) (names : List RecordName) (c : Option ℕ) (u : Track) (last : Store) (p : ℕ) → IsTrack n s names c u last → place_at_first r u ≡ Some p → place_among r names (live_places s) ≡ Some p
-first_is r n s names c u last p h is = grind (arith, nat_tests)
-
 throughout_once : (r : RecordName) (n : ℕ) (s : Store) (names : List RecordName) (c : Option ℕ) (t : Track) (last : Store) → IsTrack n s names c t last → Keeps n s names → IsAliveUntilDone r t → OneRow (rows_of r t)
-throughout_once r n s names c t last h k a = search (arith, track_rest, keeps_rest, begins_is, first_is, done_has, row_if_turn, comes, one_of_rest, at_most_one)
+throughout_once r n s names c t last h k a = search (arith, track_rest, keeps_rest, done_has, row_if_turn, comes, one_of_rest, at_most_one)
 
 -- ---- cut before a step passed it
 dead_none : (r : RecordName) (n : ℕ) (s : Store) (names : List RecordName) (c : Option ℕ) (t : Track) (last : Store) → IsTrack n s names c t last → Keeps n s names → r.birth < n → place_among r names (live_places s) ≡ None → turn_of r t ≡ None
@@ -85,7 +78,7 @@ dead_none r n s names c (x ∷ xs) last h k lt dead =
     let kx = keeps_here n s names c x h.0 k in
     let still : place_among r (names_after x.number x.reply x.before x.after x.names) (live_places x.after) ≡ None =
     elim (still_after x.number x.reply x.before x.after x.names r 0 h.0.sound h.0.changes kx (omega (arith, h.0.number))) [ inl none ↦ none | inr stood ↦ cc (stood.was_at, here) ] in
-    turn_later r x xs (passes_none r x here) ∙ dead_none r (suc n) x.after _ x.to xs last h.1 (keeps_next n s names c x h.0 k) (omega arith) still
+    find_later (passes_record r) x xs (passes_none r x here) ∙ dead_none r (suc n) x.after _ x.to xs last h.1 (keeps_next n s names c x h.0 k) (omega arith) still
 
 gone_by : (r : RecordName) (p : ℕ) (o : Option ℕ) (names : List RecordName) (ps : List ℕ) → (list_any (λ q. q == p) ps ≡ true → ⊥) → place_among r names ps ≡ o → (o ≡ None) ⊎ (o ≡ Some p) → o ≡ None
 gone_by r p o names ps never is h = elim h [ inl none ↦ none | inr some ↦ absurd (never (among_any r names ps p (is ∙ some))) ]
@@ -102,16 +95,10 @@ cut_none r n p old new names sound cuts k is =
       | inr same ↦ inr (now ∙ same ∙ sym (ap (place_among r names) i.hi_is) ∙ is)
     ])
 
-cut_never : (r : RecordName) (n : ℕ) (s : Store) (names : List RecordName) (c : Option ℕ) (t : Track) (last : Store) → IsTrack n s names c t last → Keeps n s names → IsCutBefore r t → rows_of r t ≡ []
-cut_never r n s names c t last h k a = search (arith, track_rest, keeps_rest, keeps_here, keeps_next, cut_none, among_born, dead_none, none_if, comes, split_at, track_front, flat_map-append)
-
 -- ---- added on the way
 early_none : (r : RecordName) (n : ℕ) (s : Store) (names : List RecordName) (c : Option ℕ) (t : Track) (last : Store) → IsTrack n s names c t last → Keeps n s names → n + length t ≤ r.birth → turn_of r t ≡ None
 early_none r n s names c [] last h k le = refl
-early_none r n s names c (x ∷ t) last h k le = search (arith, keeps_here, turn_later, passes_none, among_none, unborn, keeps_next, early_none r (suc n) x.after _ x.to t last h.1 (keeps_next n s names c x h.0 k) (omega arith))
-
-self_by : (r nm : RecordName) (b d : Bool) → (r.place == nm.place) ≡ b → (r.birth == nm.birth) ≡ d → r.place ≡ nm.place → r.birth ≡ nm.birth → is_name r nm ≡ true
-self_by r nm b d e f p q = search arith
+early_none r n s names c (x ∷ t) last h k le = search (arith, keeps_here, find_later, passes_none, among_none, unborn, keeps_next, early_none r (suc n) x.after _ x.to t last h.1 (keeps_next n s names c x h.0 k) (omega arith))
 
 among_self : (r nm : RecordName) (p : ℕ) (front back : List ℕ) (names : List RecordName) → is_name r nm ≡ true → list_any (is_name r) names ≡ false → length names ≡ length (front ++ back) → place_among r (take (length front) names ++ nm ∷ drop (length front) names) (front ++ p ∷ back) ≡ Some p
 among_self r nm p [] back names own new e = ap (λ (b : Bool). cond b (Some p) (place_among r names back)) own
@@ -123,13 +110,10 @@ put_is_at r n old new names sound puts k born =
     let i = puts_insert old new r.place sound puts in
     let nm : RecordName = record { place = r.place; birth = n } in
     ap (λ (j : ℕ). place_among r (take j names ++ nm ∷ drop j names) (live_places new)) i.rank_is ∙ ap (place_among r (take (length i.front) names ++ nm ∷ drop (length i.front) names)) i.hi_is
-    ∙ among_self r nm r.place i.front i.back names (self_by r nm (r.place == nm.place) (r.birth == nm.birth) refl refl refl born) (unborn n r names k.born (omega (arith, born))) (k.as_many ∙ ap length i.lo_is)
+    ∙ among_self r nm r.place i.front i.back names (search arith) (unborn n r names k.born (omega (arith, born))) (k.as_many ∙ ap length i.lo_is)
 
 not_step : (w : ℕ) (content : ReplyContent) (p : ℕ) → content ≡ Placed p → (is_step_reply w content ≡ false) × (is_rewritten content ≡ false)
 not_step w content p e = (ap (is_step_reply w) e, ap is_rewritten e)
-
-some_empty : (o : Option ℕ) (rows : List Row) → rows ≡ [] → rows_at_some o rows ≡ []
-some_empty o rows e = search arith
 
 behind_never : (r : RecordName) (at n : ℕ) (s : Store) (names : List RecordName) (c : Option ℕ) (t : Track) (last : Store) → IsTrack n s names c t last → Keeps n s names → (a : IsAddedAt r at t) → r.place < at → rows_of r t ≡ []
 behind_never r at n s names c t last h k a lt =
@@ -142,7 +126,7 @@ behind_never r at n s names c t last h k a lt =
     let content = not_step x.walk x.reply r.place a.placed in
     let front = track_front n s names c a.earlier (x ∷ a.later) last whole in
     let first : rows_of r a.earlier ≡ [] = none_if r a.earlier (comes r n s names c a.earlier _ front k) (early_none r n s names c a.earlier _ front k (omega (arith, a.born, rest.0.number))) in
-    let here : rows_here r x ≡ [] = some_empty (place_of r x) (rows_at_event x) (ap (rows_of_reply x.walk x.number) a.placed) in
+    let here : rows_here r x ≡ [] = search arith in
     let puts : Puts x.before x.after r.place = subst (λ (z : ReplyContent). Changes z x.before x.after) a.placed rest.0.changes in
     let is_there : place_among r (names_after x.number x.reply x.before x.after x.names) (live_places x.after) ≡ Some r.place =
     ap (λ (z : ReplyContent). place_among r (names_after x.number z x.before x.after x.names) (live_places x.after)) a.placed ∙ put_is_at r x.number x.before x.after x.names rest.0.sound puts kx a.born in
@@ -169,6 +153,6 @@ each_comes first start t last walk =
       in_file_order = λ p q a. in_order p q 1 first names start t last walk.is k a;
       once_if_it_has_a_turn = λ r. (turn_if_row r t (c r), row_if_turn r t (c r));
       throughout_once = λ r a. throughout_once r 1 first names start t last walk.is k a;
-      cut_before_never = λ r a. cut_never r 1 first names start t last walk.is k a;
+      cut_before_never = λ r a. search (arith, track_rest, keeps_rest, keeps_here, keeps_next, cut_none, among_born, dead_none, none_if, comes, split_at, track_front, flat_map-append);
       added_if_ahead = λ r at a. (λ one. (ahead_of r at 1 first names start t last walk.is k a one, turn_if_row r t (c r) one), λ both. row_if_turn r t (c r) both.1);
     }

@@ -1,8 +1,8 @@
 -- A record comes iff a step passes it at its place.
-use Rattle.krb_walk.proofs.Cited.{◌≡◌, ℕ, suc, ◌<◌, ◌≤◌, Bool, true, false, cond, List, [], ◌∷◌, length, Option, Some, None, inl, inr, refl, sym, ap, ◌∙◌, subst, arith, ◌&&◌, ◌==◌, ◌⊎◌, nat_le, nat_lt, IsSome, list_any, option_to_list, nat_tests, Store, Record, live_at, live_places, Row, RecordName, WalkEvent, Track, names_after, carry_by, IsWalkEvent, IsTrack, row_of, rows_at_event, rows_at, OneRow, place_among, place_of, rows_at_some, rows_here, rows_of, goes_past_some, passes_record, turn_of, HasTurn}
+use Rattle.krb_walk.proofs.Cited.{◌≡◌, ℕ, suc, ◌<◌, ◌≤◌, Bool, true, false, List, [], ◌∷◌, length, Option, Some, None, inl, inr, refl, sym, ap, ◌∙◌, subst, arith, ◌&&◌, ◌==◌, ◌⊎◌, nat_le, nat_lt, list_any, option_to_list, nat_tests, Store, Record, live_at, live_places, Row, RecordName, WalkEvent, Track, names_after, carry_by, IsWalkEvent, IsTrack, row_of, rows_at_event, rows_at, OneRow, place_among, place_of, rows_at_some, rows_here, rows_of, goes_past_some, passes_record, turn_of, HasTurn, ◌+◌, ◌++◌, append_assoc, last_names, last_cursor}
 use Rattle.krb_walk.proofs.Places.{stop_forward}
-use Rattle.krb_walk.proofs.WalkEvents.{end_of_step, Advances, effect_of}
-use Rattle.krb_walk.proofs.Names.{AreBorn, in_lives, and_false}
+use Rattle.krb_walk.proofs.WalkEvents.{find_later, end_of_step, Advances, effect_of}
+use Rattle.krb_walk.proofs.Names.{AreBorn, in_lives}
 use Rattle.krb_walk.proofs.StepRows.{step_at}
 use Rattle.krb_walk.proofs.Carries.{le_or}
 use Rattle.krb_walk.proofs.Ranked.{Keeps, keeps_after, Still, still_after}
@@ -35,16 +35,7 @@ passes_other : (r : RecordName) (x : WalkEvent) → x.stepped ≡ false → pass
 passes_other r x e = ap (λ (b : Bool). b && goes_past_some (place_of r x) x.from x.to) e
 
 pub passes_none : (r : RecordName) (x : WalkEvent) → place_of r x ≡ None → passes_record r x ≡ false
-passes_none r x e = and_false x.stepped _ (ap (λ (o : Option ℕ). goes_past_some o x.from x.to) e)
-
-pub passes_by : (r : RecordName) (x : WalkEvent) (p c d : ℕ) → x.stepped ≡ true → place_of r x ≡ Some p → x.from ≡ Some c → x.to ≡ Some d → passes_record r x ≡ (nat_le c p && nat_lt p d)
-passes_by r x p c d own at from to = search arith
-
-pub turn_later : (r : RecordName) (x : WalkEvent) (xs : Track) → passes_record r x ≡ false → turn_of r (x ∷ xs) ≡ turn_of r xs
-turn_later r x xs e = ap (λ (b : Bool). cond {A = Option WalkEvent} b (Some x) (turn_of r xs)) e
-
-pub turn_first : (r : RecordName) (x : WalkEvent) (xs : Track) → passes_record r x ≡ true → turn_of r (x ∷ xs) ≡ Some x
-turn_first r x xs e = ap (λ (b : Bool). cond {A = Option WalkEvent} b (Some x) (turn_of r xs)) e
+passes_none r x e = search arith
 
 -- a record before a cursor stays before it, so it has no turn
 abbrev pub IsBehind : RecordName → List RecordName → Store → ℕ → Type 0
@@ -63,10 +54,6 @@ pub record StaysBehind (r : RecordName) (x : WalkEvent) : Type 0 where
   pub is : x.to ≡ Some to
   pub behind : IsBehind r (names_after x.number x.reply x.before x.after x.names) x.after to
 
--- a record before the place that a step goes to is before the cursor after the step
-behind_step : (r : RecordName) (n : ℕ) (s : Store) (names : List RecordName) (c : Option ℕ) (x : WalkEvent) (g : Advances x) → IsWalkEvent n s names c x → Keeps n s names → r.birth < n → ((p : ℕ) → place_of r x ≡ Some p → p < end_of_step x g.at) → StaysBehind r x
-behind_step r n s names c x g h k lt b = grind (arith, nat_tests)
-
 pub behind_event : (r : RecordName) (n : ℕ) (s : Store) (names : List RecordName) (c : Option ℕ) (x : WalkEvent) (d : ℕ) → IsWalkEvent n s names c x → Keeps n s names → r.birth < n → c ≡ Some d → IsBehind r names s d → StaysBehind r x
 behind_event r n s names c x d h k lt at b =
     let here = place_here r n s names c x h in
@@ -76,28 +63,18 @@ behind_event r n s names c x d h k lt at b =
       | inr goes ↦ (
           let same : d ≡ goes.at = cc (at, goes.stood, h.from) in
           let forward = stop_forward x.before goes.at (h.here goes.at goes.stood) in
-          behind_step r n s names c x goes h k lt (λ p e. omega (arith, bx p e)))
+          (grind (arith, nat_tests)))
     ]
-
--- no step passes a record before the cursor
-behind_missed : (r : RecordName) (n : ℕ) (s : Store) (names : List RecordName) (c : Option ℕ) (x : WalkEvent) (d : ℕ) → IsWalkEvent n s names c x → c ≡ Some d → IsBehind r names s d → passes_record r x ≡ false
-behind_missed r n s names c x d h at b = grind (arith, nat_tests)
 
 pub behind_none : (r : RecordName) (n : ℕ) (s : Store) (names : List RecordName) (c : Option ℕ) (t : Track) (last : Store) (d : ℕ) → IsTrack n s names c t last → Keeps n s names → r.birth < n → c ≡ Some d → IsBehind r names s d → turn_of r t ≡ None
 behind_none r n s names c [] last d h k lt at b = refl
 behind_none r n s names c (x ∷ xs) last d h k lt at b =
     let on = behind_event r n s names c x d h.0 k lt at b in
-    turn_later r x xs (behind_missed r n s names c x d h.0 at b) ∙ behind_none r (suc n) x.after _ x.to xs last on.to h.1 (keeps_next n s names c x h.0 k) (omega arith) on.is on.behind
+    find_later (passes_record r) x xs (grind (arith, nat_tests)) ∙ behind_none r (suc n) x.after _ x.to xs last on.to h.1 (keeps_next n s names c x h.0 k) (omega arith) on.is on.behind
 
 -- the rows of a record at an event
 here_some : (r : RecordName) (x : WalkEvent) (p : ℕ) → place_of r x ≡ Some p → rows_here r x ≡ rows_at p (rows_at_event x)
 here_some r x p e = ap (λ (o : Option ℕ). rows_at_some o (rows_at_event x)) e
-
-here_none : (r : RecordName) (x : WalkEvent) → place_of r x ≡ None → rows_here r x ≡ []
-here_none r x e = ap (λ (o : Option ℕ). rows_at_some o (rows_at_event x)) e
-
-silent_here : (r : RecordName) (x : WalkEvent) → rows_at_event x ≡ [] → rows_here r x ≡ []
-silent_here r x e = search arith
 
 one_found : (n : ℕ) (found : Option Record) (held : Record) (rows : List Row) → found ≡ Some held → rows ≡ option_to_list (row_of n found) → OneRow rows
 one_found n found held rows is e = record { row = record { event = n; stood = held }; only = e ∙ ap (λ (o : Option Record). option_to_list (row_of n o)) is }
@@ -105,13 +82,6 @@ one_found n found held rows is e = record { row = record { event = n; stood = he
 -- ---- a record has no turn and no row, or a turn and one row
 abbrev pub Comes : RecordName → Track → Type 0
 Comes r t = ((turn_of r t ≡ None) × (rows_of r t ≡ [])) ⊎ (HasTurn r t × OneRow (rows_of r t))
-
--- a record that is passed is alive
-pub passes_alive : (r : RecordName) (x : WalkEvent) → passes_record r x ≡ true → IsSome (place_of r x)
-passes_alive r x e = search arith
-
-comes_later : (r : RecordName) (x : WalkEvent) (xs : Track) → passes_record r x ≡ false → rows_here r x ≡ [] → Comes r xs → Comes r (x ∷ xs)
-comes_later r x xs e here c = grind (arith, nat_tests)
 
 comes_now : (r : RecordName) (x : WalkEvent) (xs : Track) → passes_record r x ≡ true → OneRow (rows_here r x) → turn_of r xs ≡ None → Comes r xs → Comes r (x ∷ xs)
 comes_now r x xs e here none c = grind (arith, nat_tests)
@@ -121,14 +91,8 @@ pub record IsPassed (r : RecordName) (n : ℕ) (x : WalkEvent) : Type 0 where
   pub born : r.birth < n
   pub on : StaysBehind r x
 
-passed_by : (r : RecordName) (n : ℕ) (s : Store) (names : List RecordName) (c : Option ℕ) (x : WalkEvent) (g : Advances x) (o : Option ℕ) → IsWalkEvent n s names c x → Keeps n s names → place_of r x ≡ o → passes_record r x ≡ true → IsPassed r n x
-passed_by r n s names c x g o h k is e = search (arith, passes_none, passes_by, keeps_here, among_born, behind_step)
-
 pub passed : (r : RecordName) (n : ℕ) (s : Store) (names : List RecordName) (c : Option ℕ) (x : WalkEvent) → IsWalkEvent n s names c x → Keeps n s names → passes_record r x ≡ true → IsPassed r n x
-passed r n s names c x h k e = elim (effect_of x h.effect) [
-  | inl holds ↦ cc (passes_other r x holds.idle, e)
-  | inr goes ↦ passed_by r n s names c x goes (place_of r x) h k refl e
-]
+passed r n s names c x h k e = search (arith, effect_of, passes_other, passes_none, keeps_here, among_born)
 
 pub passed_once : (r : RecordName) (n : ℕ) (s : Store) (names : List RecordName) (c : Option ℕ) (x : WalkEvent) (xs : Track) (last : Store) → IsTrack n s names c (x ∷ xs) last → Keeps n s names → passes_record r x ≡ true → turn_of r xs ≡ None
 passed_once r n s names c x xs last h k e =
@@ -140,20 +104,19 @@ comes_at : (r : RecordName) (n : ℕ) (s : Store) (names : List RecordName) (c :
 comes_at r n s names c x xs last g p true h k is e ih =
     let held = in_lives x.before.first p x.before.cells h.0.sound (among_any r x.names (live_places x.before) p is) in
     let rows = here_some r x p is ∙ ap (rows_at p) g.same_rows ∙ step_at x.number x.before g.at p true h.0.sound (h.0.here g.at g.stood) e in
-    let now = passes_by r x p g.at _ g.stepped is g.stood g.is_there ∙ e in
+    let now = search arith ∙ e in
     comes_now r x xs now (one_found x.number (live_at x.before p) held.held (rows_here r x) held.is rows) (passed_once r n s names c x xs last h k now) ih
-comes_at r n s names c x xs last g p false h k is e ih =
-    comes_later r x xs (passes_by r x p g.at _ g.stepped is g.stood g.is_there ∙ e) (here_some r x p is ∙ ap (rows_at p) g.same_rows ∙ step_at x.number x.before g.at p false h.0.sound (h.0.here g.at g.stood) e) ih
+comes_at r n s names c x xs last g p false h k is e ih = search (arith, here_some, step_at)
 
 comes_go : (r : RecordName) (n : ℕ) (s : Store) (names : List RecordName) (c : Option ℕ) (x : WalkEvent) (xs : Track) (last : Store) (g : Advances x) (o : Option ℕ) → IsTrack n s names c (x ∷ xs) last → Keeps n s names → place_of r x ≡ o → Comes r xs → Comes r (x ∷ xs)
-comes_go r n s names c x xs last g o h k is ih = search (arith, comes_later, passes_none, here_none, comes_at)
+comes_go r n s names c x xs last g o h k is ih = search (arith, passes_none, comes_at)
 
 pub comes : (r : RecordName) (n : ℕ) (s : Store) (names : List RecordName) (c : Option ℕ) (t : Track) (last : Store) → IsTrack n s names c t last → Keeps n s names → Comes r t
 comes r n s names c [] last h k = inl (refl, refl)
 comes r n s names c (x ∷ xs) last h k =
     let ih = comes r (suc n) x.after _ x.to xs last h.1 (keeps_next n s names c x h.0 k) in
     elim (effect_of x h.0.effect) [
-      | inl holds ↦ comes_later r x xs (passes_other r x holds.idle) (silent_here r x holds.silent) ih
+      | inl holds ↦ grind (arith, nat_tests)
       | inr goes ↦ comes_go r n s names c x xs last goes (place_of r x) h k refl ih
     ]
 
@@ -169,3 +132,23 @@ row_if_turn r t c turn = elim c [ inl none ↦ cc (none.0, turn.is) | inr has �
 
 pub none_if : (r : RecordName) (t : Track) → Comes r t → turn_of r t ≡ None → rows_of r t ≡ []
 none_if r t c e = elim c [ inl none ↦ none.1 | inr has ↦ cc (has.0.is, e) ]
+
+-- ---- the parts of a track
+abbrev pub store_at_end : Store → Track → Store
+store_at_end s [] = s
+store_at_end s (x ∷ xs) = store_at_end x.after xs
+
+pub track_rest : (n : ℕ) (s : Store) (names : List RecordName) (c : Option ℕ) (t u : Track) (last : Store) → IsTrack n s names c (t ++ u) last → IsTrack (n + length t) (store_at_end s t) (last_names names t) (last_cursor c t) u last
+track_rest n s names c [] u last h = let e : n ≡ n + 0 = omega arith in subst (λ (m : ℕ). IsTrack m s names c u last) e h
+track_rest n s names c (x ∷ xs) u last h = search (arith, track_rest (suc n) x.after _ x.to xs u last h.1)
+
+pub track_front : (n : ℕ) (s : Store) (names : List RecordName) (c : Option ℕ) (t u : Track) (last : Store) → IsTrack n s names c (t ++ u) last → IsTrack n s names c t (store_at_end s t)
+track_front n s names c [] u last h = refl
+track_front n s names c (x ∷ xs) u last h = (h.0, track_front (suc n) x.after _ x.to xs u last h.1)
+
+pub keeps_rest : (n : ℕ) (s : Store) (names : List RecordName) (c : Option ℕ) (t u : Track) (last : Store) → IsTrack n s names c (t ++ u) last → Keeps n s names → Keeps (n + length t) (store_at_end s t) (last_names names t)
+keeps_rest n s names c [] u last h k = let e : n ≡ n + 0 = omega arith in subst (λ (m : ℕ). Keeps m s names) e k
+keeps_rest n s names c (x ∷ xs) u last h k = grind (arith, nat_tests, keeps_rest (suc n) x.after _ x.to xs u last h.1 (keeps_next n s names c x h.0 k))
+
+pub split_at : (t : Track) (x : WalkEvent) (u : Track) → (t ++ x ∷ []) ++ u ≡ t ++ x ∷ u
+split_at t x u = append_assoc t (x ∷ []) u

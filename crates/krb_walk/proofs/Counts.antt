@@ -6,7 +6,7 @@ use Rattle.krb_walk.proofs.Places.{or_cases}
 use Rattle.krb_walk.proofs.WalkEvents.{end_of_step, effect_of, carry_by-own}
 use Rattle.krb_walk.proofs.Lives.{lives_lt, puts_insert, cuts_insert}
 use Rattle.krb_walk.proofs.Carries.{below, carry_keeps_rank}
-use Rattle.krb_walk.proofs.Ranked.{AreDistinct, Keeps, among_none, same_name_is}
+use Rattle.krb_walk.proofs.Ranked.{AreDistinct, Keeps, among_none}
 use Rattle.krb_walk.proofs.Comes.{keeps_here, keeps_next}
 
 -- counts of places at or after a cursor
@@ -88,17 +88,11 @@ itself x = let one : (x.place == x.place) ≡ true = grind (arith, nat_tests) in
 named_head : (x : RecordName) (q p : ℕ) (names : List RecordName) (ps : List ℕ) → (q == p) ≡ true → Named (x ∷ names) (q ∷ ps) p
 named_head x q p names ps e = let same : q ≡ p = grind (arith, nat_tests) in record { name = x; is_there = ap (λ (b : Bool). cond b (Some q) (place_among x names ps)) (itself x) ∙ ap Some same }
 
-named_tail : (x : RecordName) (q p : ℕ) (b : Bool) (names : List RecordName) (ps : List ℕ) → (n : Named names ps p) → is_name n.name x ≡ b → list_any (is_name x) names ≡ false → Named (x ∷ names) (q ∷ ps) p
-named_tail x q p b names ps n e apart = search (arith, same_name_is, among_none)
-
 named_of : (p : ℕ) (names : List RecordName) (ps : List ℕ) → AreDistinct names → length names ≡ length ps → list_any (λ q. q == p) ps ≡ true → Named names ps p
 named_of p [] [] d e h = cc
 named_of p [] (q ∷ ps) d e h = absurd (omega (arith, e))
 named_of p (x ∷ names) [] d e h = cc
-named_of p (x ∷ names) (q ∷ ps) d e h = elim (or_cases (q == p) (list_any (λ q. q == p) ps) h) [
-  | inl a ↦ named_head x q p names ps a
-  | inr b ↦ (let rest = named_of p names ps d.1 (let s : length names ≡ length ps = omega (arith, e) in s) b in named_tail x q p (is_name rest.name x) names ps rest refl d.0)
-]
+named_of p (x ∷ names) (q ∷ ps) d e h = search (arith, or_cases, named_head, among_none, named_of p names ps d.1)
 
 in_filtered : (f : Record → Bool) (rs : List Record) (r : Record) (rest : List Record) → filter f rs ≡ r ∷ rest → list_any (λ q. q == r.place) (map (λ y. y.place) rs) ≡ true
 in_filtered f [] r rest is = cc

@@ -1,10 +1,9 @@
 -- What each event does to a walk, and the law of histories.
-use Rattle.krb_walk.proofs.Cited.{◌≡◌, ◌≢◌, ℕ, zero, suc, ◌+◌, Bool, true, false, cond, List, [], ◌∷◌, ◌++◌, length, map, Option, Some, None, Result, Ok, Err, inl, inr, refl, sym, ap, ◌∙◌, subst, arith, ◌&&◌, ◌==◌, ◌⊎◌, nat_lt, is_some, slice_get, nat_tests, Event, Start, Resume, Step, Put, Cut, Rewrite, Code, Cell, Store, Record, end_from, end_of, is_place_from, IsSound, is_place, next_live, Changes, ReplyContent, Placed, Gone, Rewritten, is_step_reply, is_rewritten, Rules, SessionState, after, reply_to, store_after, cursors_after, stop_cursor, stop_reply, put_reply, cut_reply, cut_store, rewrite_reply, rewrite_cursors, step_reply, step_cursors, IsReady, IsLawful, AllLawful, AllPlain, moment, history, state_after, steps_walk, rank, nth_or, carry, carry_by, AnswersStep}
+use Rattle.krb_walk.proofs.Cited.{◌≡◌, ℕ, zero, suc, ◌+◌, Bool, true, false, cond, List, [], ◌∷◌, ◌++◌, length, map, Some, Result, Ok, Err, inl, sym, ap, subst, arith, ◌&&◌, ◌⊎◌, nat_lt, slice_get, nat_tests, Event, Start, Resume, Step, Put, Cut, Rewrite, Code, Cell, Store, end_from, end_of, is_place_from, is_place, next_live, Changes, ReplyContent, Placed, Gone, Rewritten, is_step_reply, is_rewritten, Rules, SessionState, after, reply_to, store_after, cursors_after, stop_cursor, put_reply, cut_reply, cut_store, rewrite_cursors, IsReady, IsLawful, AllLawful, AllPlain, moment, history, state_after, steps_walk, rank, nth_or, carry, carry_by, AnswersStep, refl, Option, ◌==◌}
 use Rattle.krb_walk.proofs.Lists.{get-push, get-append, get-set, get-set_other, get-set_same}
 use Rattle.krb_walk.proofs.Places.{Extends, extends_self, extends_on, puts-extends, cuts-extends, sound_kept, place_kept, place_first, stop_place}
 use Rattle.krb_walk.proofs.Stops.{is_place_from-first}
 use Rattle.krb_walk.proofs.Lives.{lives}
-use Rattle.krb_walk.proofs.WalkEvents.{carry_by-same}
 
 pub same_extends : (old new : Store) → new ≡ old → Extends old new
 same_extends old new e = subst (λ (s : Store). Extends old s) (sym e) (extends_self old)
@@ -22,10 +21,6 @@ put_extends (Err code) old new h = same_extends old new h
 cut_extends : {S : Type 0} (p : ℕ) (given : Result S Code) (old new : Store) → Changes (cut_reply p given) old new → Extends old new
 cut_extends p (Ok given) old new h = cuts-extends old new p h
 cut_extends p (Err code) old new h = same_extends old new h
-
--- an event that leaves the store unchanged is lawful
-pub lawful_step : {S I : Type 0} (r : Rules S I) (s : SessionState S) (w : ℕ) → IsLawful {I = I} r (moment r s (Step w))
-lawful_step r s w = search arith
 
 -- a cursor is carried to a place
 place_at_nth : (at : ℕ) (cells : List Cell) (k : ℕ) → is_place_from at cells (nth_or (end_from at cells) (lives at cells) k) ≡ true
@@ -57,29 +52,20 @@ AtPlaces s cursors = (w c : ℕ) → slice_get cursors w ≡ Some c → is_place
 at_start : (s : Store) (cursors : List ℕ) (p : ℕ) (b : Bool) → AtPlaces s cursors → (b ≡ true → is_place s p ≡ true) → AtPlaces s (cond b (cursors ++ p ∷ []) cursors)
 at_start s cursors p b all here = search (arith, get-push)
 
-and_right : (a b : Bool) → (a && b) ≡ true → b ≡ true
-and_right a b h = search arith
-
-at_step : (s : Store) (cursors : List ℕ) (v : ℕ) (o : Option ℕ) → AtPlaces s cursors → AtPlaces s (step_cursors s cursors v o)
-at_step s cursors v o all = search (arith, stop_place, get-set)
-
 at_rewrite : {S : Type 0} (seen : S → Store) (old : S) (cursors : List ℕ) (given : Result S Code) → AtPlaces (seen old) cursors → AtPlaces (seen (cut_store old given)) (rewrite_cursors seen old cursors given)
 at_rewrite seen old cursors (Ok new) all w c e = let was = was_map (carry (seen old) (seen new)) cursors w c e in subst (λ (p : ℕ). is_place (seen new) p ≡ true) was.is (place_carried (seen old) (seen new) was.at)
 at_rewrite seen old cursors (Err code) all w c e = all w c e
 
-sound_after : {S I : Type 0} (r : Rules S I) (s : SessionState S) (e : Event I) → IsSound (r.seen s.store) → IsLawful r (moment r s e) → IsSound (r.seen (store_after r s e))
-sound_after r s e sound h = search (arith, sound_kept, put_extends, cut_extends)
-
 at_after : {S I : Type 0} (r : Rules S I) (s : SessionState S) (e : Event I) → AtPlaces (r.seen s.store) s.cursors → IsLawful r (moment r s e) → AtPlaces (r.seen (store_after r s e)) (cursors_after r s e)
 at_after r s Start all h = at_start (r.seen s.store) s.cursors _ (nat_lt (length s.cursors) 1024) all (λ _. place_first (r.seen s.store))
-at_after r s (Resume p) all h = at_start (r.seen s.store) s.cursors p (nat_lt (length s.cursors) 1024 && is_place (r.seen s.store) p) all (λ e. and_right _ _ e)
-at_after r s (Step v) all h = at_step (r.seen s.store) s.cursors v (slice_get s.cursors v) all
+at_after r s (Resume p) all h = at_start (r.seen s.store) s.cursors p (nat_lt (length s.cursors) 1024 && is_place (r.seen s.store) p) all (λ e. (search arith))
+at_after r s (Step v) all h = search (arith, stop_place, get-set)
 at_after r s (Put item) all h = λ w c e. place_kept _ _ c (put_extends (r.put s.store item) _ _ h) (all w c e)
 at_after r s (Cut p) all h = λ w c e. place_kept _ _ c (cut_extends p (r.cut s.store p) _ _ h) (all w c e)
 at_after r s Rewrite all h = at_rewrite r.seen s.store s.cursors (r.rewrite s.store) all
 
 pub ready_after : {S I : Type 0} (r : Rules S I) (s : SessionState S) (e : Event I) → IsReady r s → IsLawful r (moment r s e) → IsReady r (after r s e)
-ready_after r s e ready h = search (arith, sound_after, at_after)
+ready_after r s e ready h = search (arith, sound_kept, put_extends, cut_extends, at_after)
 
 -- an event that is no step of a walk, and one that is
 pub record Unmoved {S I : Type 0} (r : Rules S I) (s : SessionState S) (e : Event I) (w : ℕ) : Type 0 where
@@ -94,98 +80,12 @@ pub record Moves {S I : Type 0} (r : Rules S I) (s : SessionState S) (e : Event 
   pub is_there : slice_get (cursors_after r s e) w ≡ Some (stop_cursor (end_of (r.seen s.store)) (next_live (r.seen s.store) at))
   pub answered : AnswersStep (r.seen s.store) w at (reply_to r s e) (stop_cursor (end_of (r.seen s.store)) (next_live (r.seen s.store) at))
 
--- replies that are not to a step of the walk
-other_cond : (w : ℕ) (b : Bool) (x y : ReplyContent) → is_step_reply w x ≡ false → is_step_reply w y ≡ false → is_step_reply w (cond b x y) ≡ false
-other_cond w b x y h k = search arith
-
-other_put : {S : Type 0} (w : ℕ) (given : Result (ℕ × S) Code) → is_step_reply w (put_reply given) ≡ false
-other_put w given = search arith
-
-other_cut : {S : Type 0} (w p : ℕ) (given : Result S Code) → is_step_reply w (cut_reply p given) ≡ false
-other_cut w p given = search arith
-
-other_rewrite : {S : Type 0} (w : ℕ) (seen : S → Store) (given : Result S Code) → is_step_reply w (rewrite_reply seen given) ≡ false
-other_rewrite w seen given = search arith
-
--- replies that accept no rewrite
-plain_cond : (b : Bool) (x y : ReplyContent) → is_rewritten x ≡ false → is_rewritten y ≡ false → is_rewritten (cond b x y) ≡ false
-plain_cond b x y h k = search arith
-
-plain_step : (s : Store) (w : ℕ) (o : Option ℕ) → is_rewritten (step_reply s w o) ≡ false
-plain_step s w o = search arith
-
-plain_put : {S : Type 0} (given : Result (ℕ × S) Code) → is_rewritten (put_reply given) ≡ false
-plain_put given = search arith
-
-plain_cut : {S : Type 0} (p : ℕ) (given : Result S Code) → is_rewritten (cut_reply p given) ≡ false
-plain_cut p given = search arith
-
-stays_plain : (content : ReplyContent) (old new : Store) (q : Option ℕ) (d : ℕ) → is_rewritten content ≡ false → q ≡ Some d → q ≡ Some (carry_by content old new d)
-stays_plain content old new q d plain h = h ∙ sym (ap Some (carry_by-same content old new d plain))
-
-rewrite_stays : {S : Type 0} (seen : S → Store) (old : S) (cursors : List ℕ) (given : Result S Code) (w d : ℕ) → slice_get cursors w ≡ Some d → slice_get (rewrite_cursors seen old cursors given) w ≡ Some (carry_by (rewrite_reply seen given) (seen old) (seen (cut_store old given)) d)
-rewrite_stays seen old cursors given w d h = search (arith, get_map)
-
-other_walk : (s : Store) (w v : ℕ) (found : Option Record) → (v == w) ≡ false → is_step_reply w (stop_reply s v found) ≡ false
-other_walk s w v found e = search arith
-
-pub get_push_cond : (b : Bool) (cursors : List ℕ) (p w d : ℕ) → slice_get cursors w ≡ Some d → slice_get (cond b (cursors ++ p ∷ []) cursors) w ≡ Some d
-get_push_cond b cursors p w d h = search (arith, get-append)
-
--- the reply to a step of the walk
-answered_by : (s : Store) (w c : ℕ) (found : Option Record) → next_live s c ≡ found → AnswersStep s w c (stop_reply s w found) (stop_cursor (end_of s) found)
-answered_by s w c found is = search arith
-
-pub record OwnStep {S I : Type 0} (r : Rules S I) (s : SessionState S) (w c : ℕ) : Type 0 where
-  pub is_there : slice_get (cursors_after r s (Step w)) w ≡ Some (stop_cursor (end_of (r.seen s.store)) (next_live (r.seen s.store) c))
-  pub answered : AnswersStep (r.seen s.store) w c (reply_to r s (Step w)) (stop_cursor (end_of (r.seen s.store)) (next_live (r.seen s.store) c))
-
-pub own_step : {S I : Type 0} (r : Rules S I) (s : SessionState S) (w c : ℕ) → slice_get s.cursors w ≡ Some c → OwnStep r s w c
-own_step r s w c is =
-    let store = r.seen s.store in
-    let to = stop_cursor (end_of store) (next_live store c) in
-    record {
-      is_there = ap (λ o. slice_get (step_cursors store s.cursors w o) w) is ∙ get-set_same s.cursors w to c is;
-      answered = subst (λ (o : Option ℕ). AnswersStep store w c (step_reply store w o) to) (sym is) (answered_by store w c (next_live store c) refl);
-    }
-
-moves_own : {S I : Type 0} (r : Rules S I) (s : SessionState S) (w c : ℕ) → slice_get s.cursors w ≡ Some c → Moves r s (Step w) w
-moves_own r s w c is =
-    let step = own_step r s w c is in
-    let itself : (w == w) ≡ true = grind (arith, nat_tests) in
-    record { stepped = ap (λ (b : Bool). b && is_some (slice_get s.cursors w)) itself ∙ ap (λ (o : Option ℕ). is_some o) is; at = c; stood = is; is_there = step.is_there; answered = step.answered }
-
--- a step of another walk, or of none
-idle_none : (cursors : List ℕ) (v w : ℕ) (b : Bool) → slice_get cursors v ≡ None → (v == w) ≡ b → ((v == w) && is_some (slice_get cursors w)) ≡ false
-idle_none cursors v w b is e = search arith
-
-effect_step : {S I : Type 0} (r : Rules S I) (s : SessionState S) (v w : ℕ) (o : Option ℕ) (b : Bool) → slice_get s.cursors v ≡ o → (v == w) ≡ b → Unmoved r s (Step v) w ⊎ Moves r s (Step v) w
-effect_step r s v w None b is e =
-    let store = r.seen s.store in
-    inl (record {
-      idle = idle_none s.cursors v w b is e;
-      stays = λ d h. stays_plain _ store store _ d (plain_step store v (slice_get s.cursors v)) (ap (λ o. slice_get (step_cursors store s.cursors v o) w) is ∙ h);
-      other = ap (λ o. is_step_reply w (step_reply store v o)) is;
-    })
-effect_step r s v w (Some c) false is e =
-    let store = r.seen s.store in
-    let differ : v ≢ w = grind (arith, nat_tests) in
-    inl (record {
-      idle = ap (λ (b : Bool). b && is_some (slice_get s.cursors w)) e;
-      stays = λ d h. stays_plain _ store store _ d (plain_step store v (slice_get s.cursors v)) (ap (λ o. slice_get (step_cursors store s.cursors v o) w) is ∙ get-set_other s.cursors v _ w differ ∙ h);
-      other = ap (λ o. is_step_reply w (step_reply store v o)) is ∙ other_walk store w v (next_live store c) e;
-    })
-effect_step r s v w (Some c) true is e =
-    let same : v ≡ w = grind (arith, nat_tests) in
-    inr (subst (Moves r s (Step v)) same (moves_own r s v c is))
+effect_step : {S I : Type 0} (r : Rules S I) (s : SessionState S) (v w : ℕ) (o : Option ℕ) (b : Bool) → slice_get s.cursors v ≡ o → (v == w) ≡ b → Unmoved {I = I} r s (Step v) w ⊎ Moves {I = I} r s (Step v) w
+effect_step r s v w o b is e = grind (arith, nat_tests, get-set_other, get-set_same)
 
 pub effect : {S I : Type 0} (r : Rules S I) (s : SessionState S) (e : Event I) (w : ℕ) → Unmoved r s e w ⊎ Moves r s e w
-effect r s Start w = inl (record { idle = refl; stays = λ d h. stays_plain _ _ _ _ d (plain_cond (nat_lt (length s.cursors) 1024) _ _ refl refl) (get_push_cond (nat_lt (length s.cursors) 1024) s.cursors _ w d h); other = other_cond w (nat_lt (length s.cursors) 1024) _ _ refl refl })
-effect r s (Resume p) w = inl (record { idle = refl; stays = λ d h. stays_plain _ _ _ _ d (plain_cond (nat_lt (length s.cursors) 1024) _ _ (plain_cond (is_place (r.seen s.store) p) _ _ refl refl) refl) (get_push_cond (nat_lt (length s.cursors) 1024 && is_place (r.seen s.store) p) s.cursors p w d h); other = other_cond w (nat_lt (length s.cursors) 1024) _ _ (other_cond w (is_place (r.seen s.store) p) _ _ refl refl) refl })
 effect r s (Step v) w = effect_step r s v w (slice_get s.cursors v) (v == w) refl refl
-effect r s (Put item) w = inl (record { idle = refl; stays = λ d h. stays_plain _ _ _ _ d (plain_put (r.put s.store item)) h; other = other_put w (r.put s.store item) })
-effect r s (Cut p) w = inl (record { idle = refl; stays = λ d h. stays_plain _ _ _ _ d (plain_cut p (r.cut s.store p)) h; other = other_cut w p (r.cut s.store p) })
-effect r s Rewrite w = inl (record { idle = refl; stays = λ d h. rewrite_stays r.seen s.store s.cursors (r.rewrite s.store) w d h; other = other_rewrite w r.seen (r.rewrite s.store) })
+effect r s e w = inl (search (arith, get-append, get_map))
 
 -- a history without rewrites: its last store has the cells of the first where they were
 pub history_extends : {S I : Type 0} (r : Rules S I) (s : SessionState S) (es : List (Event I)) → AllPlain (history r s es) → AllLawful r (history r s es) → Extends (r.seen s.store) (r.seen (state_after r s es).store)

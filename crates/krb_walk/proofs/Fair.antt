@@ -3,7 +3,7 @@ use Rattle.krb_walk.proofs.Cited.{◌≡◌, ℕ, suc, ◌+◌, ◌≤◌, List,
 use Rattle.krb_walk.proofs.WalkEvents.{cursor_is_sound}
 use Rattle.krb_walk.proofs.Tracks.{track_gives, track_gives_by_steps}
 use Rattle.krb_walk.proofs.Ranked.{first_keeps}
-use Rattle.krb_walk.proofs.Parts.{track_rest}
+use Rattle.krb_walk.proofs.Comes.{track_rest}
 use Rattle.krb_walk.proofs.Order.{sides_kept}
 use Rattle.krb_walk.proofs.ComeLaws.{each_comes}
 use Rattle.krb_walk.proofs.Names.{first_named}

@@ -1,14 +1,13 @@
 -- Over a store with a fault, the steps of a walk give the records from its cursor on, and then the fault.
-use Rattle.krb_walk.proofs.Cited.{◌≡◌, ℕ, zero, suc, ◌≤◌, Bool, true, false, cond, List, [], ◌∷◌, ◌++◌, length, map, take, replicate, Option, Some, None, inl, inr, refl, sym, ap, ◌∙◌, subst, arith, filter, AllByRecursion, option_to_list, FaultKind, Store, Record, end_of, IsSound, next_live, Changes, ReplyContent, Faulted, is_step_reply, completes, is_gave, is_rewritten, stop_cursor, stop_reply, end_reply, RecordName, WalkEvent, Track, AnswersStep, IsTrack, records_from, nat_tests, GiveToFault, as_walk, gave, step_replies}
+use Rattle.krb_walk.proofs.Cited.{◌≡◌, ℕ, zero, suc, ◌≤◌, Bool, true, false, cond, List, [], ◌∷◌, ◌++◌, length, map, take, replicate, Option, Some, None, inl, inr, refl, sym, ap, ◌∙◌, subst, arith, filter, AllByRecursion, option_to_list, FaultKind, Store, Record, end_of, IsSound, next_live, Changes, ReplyContent, Faulted, is_step_reply, completes, is_gave, is_rewritten, stop_cursor, stop_reply, RecordName, WalkEvent, Track, IsTrack, records_from, nat_tests, GiveToFault, as_walk, gave, step_replies}
 use Rattle.krb_walk.proofs.Stops.{stops_give_records, stops_end}
 use Rattle.krb_walk.proofs.WalkEvents.{end_of_step, effect_of, carry_by-same}
 use Rattle.krb_walk.proofs.Counts.{none_at_end}
-use Rattle.krb_walk.proofs.Parts.{track_rest}
+use Rattle.krb_walk.proofs.Comes.{track_rest}
 
 -- the records from a place on are the next one, and those from where a step leads
 pub records_next : (s : Store) (c : ℕ) (found : Option Record) → IsSound s → next_live s c ≡ found → records_from s c ≡ option_to_list found ++ records_from s (stop_cursor (end_of s) found)
-records_next s c None sound is = stops_end s c is ∙ sym (none_at_end s sound)
-records_next s c (Some r) sound is = (stops_give_records s c r sound is).first
+records_next s c found sound is = search (arith, stops_end, none_at_end, stops_give_records)
 
 -- the replies to the steps of a walk over a store with a fault
 abbrev pub damaged_replies : Store → ℕ → ℕ → ℕ → FaultKind → List ReplyContent
@@ -17,20 +16,12 @@ damaged_replies s w c m kind = map (gave w) (records_from s c) ++ replicate m (F
 damaged_step : (s : Store) (w c m k : ℕ) (kind : FaultKind) (found : Option Record) (rest : List ReplyContent) → s.fault ≡ Some kind → next_live s c ≡ found → records_from s c ≡ option_to_list found ++ records_from s (stop_cursor (end_of s) found)
     → (found ≡ None → records_from s (end_of s) ≡ []) → suc k ≤ m → ((j : ℕ) → k ≤ j → rest ≡ take k (damaged_replies s w (stop_cursor (end_of s) found) j kind)) → stop_reply s w found ∷ rest ≡ take (suc k) (damaged_replies s w c m kind)
 damaged_step s w c zero k kind found rest fault is from empty le ih = absurd (omega arith)
-damaged_step s w c (suc m) k kind None rest fault is from empty le ih =
-    let f : ReplyContent = Faulted w (record { place = end_of s; kind = kind }) in
-    let none : records_from s c ≡ [] = from ∙ empty refl in
-    let tail : rest ≡ take k (replicate m f) = ih m (omega arith) ∙ ap (λ (rs : List Record). take k (map (gave w) rs ++ replicate m f)) (empty refl) in
-    ap (λ (x : Option FaultKind). end_reply w (end_of s) x ∷ rest) fault ∙ ap (λ (l : List ReplyContent). f ∷ l) tail ∙ sym (ap (λ (rs : List Record). take (suc k) (map (gave w) rs ++ f ∷ replicate m f)) none)
+damaged_step s w c (suc m) k kind None rest fault is from empty le ih = search (arith)
 damaged_step s w c (suc m) k kind (Some r) rest fault is from empty le ih =
     ap (λ (l : List ReplyContent). gave w r ∷ l) (ih (suc m) (omega arith)) ∙ sym (ap (λ (rs : List Record). take (suc k) (map (gave w) rs ++ replicate (suc m) (Faulted w (record { place = end_of s; kind = kind })))) from)
 
 abbrev pub RepliesBy : List ReplyContent → Store → ℕ → ℕ → ℕ → FaultKind → Type 0
 RepliesBy content s w c m kind = length content ≤ m → content ≡ take (length content) (damaged_replies s w c m kind)
-
--- the reply to a step, with another number for its walk
-answer_is : (s : Store) (w c u : ℕ) (content : ReplyContent) (to : ℕ) → AnswersStep s w c content to → as_walk u content ≡ stop_reply s u (next_live s c)
-answer_is s w c u content to a = search arith
 
 -- a store with a fault is unchanged, and is not rewritten
 fault_stays : (content : ReplyContent) (old new : Store) (kind : FaultKind) → old.fault ≡ Some kind → Changes content old new → new ≡ old
@@ -63,7 +54,7 @@ faulted_replies w n s names c (x ∷ xs) last d m kind fault h at =
           let b = x.before in
           let rest = step_replies w xs in
           let found = next_live b goes.at in
-          let content : step_replies w (x ∷ xs) ≡ stop_reply b w found ∷ rest = replies_step w x xs goes.stepped ∙ ap (λ (y : ReplyContent). y ∷ rest) (answer_is b x.walk goes.at w x.reply _ goes.answered) in
+          let content : step_replies w (x ∷ xs) ≡ stop_reply b w found ∷ rest = replies_step w x xs goes.stepped ∙ ap (λ (y : ReplyContent). y ∷ rest) (search arith) in
           let ih : (j : ℕ) → RepliesBy rest b w (end_of_step x goes.at) j kind = λ j. subst (λ (z : Store). RepliesBy rest z w (end_of_step x goes.at) j kind) stays (faulted_replies w (suc n) x.after _ x.to xs last (end_of_step x goes.at) j kind fault_on h.1 goes.is_there) in
           let here : RepliesBy (stop_reply b w found ∷ rest) b w goes.at m kind = λ le. damaged_step b w goes.at m (length rest) kind found rest fault_x refl (records_next b goes.at found h.0.sound refl) (λ e. none_at_end b h.0.sound) le (λ j k. ih j k) in
           subst (λ (e : ℕ). RepliesBy (step_replies w (x ∷ xs)) s w e m kind) (sym same)

@@ -1,7 +1,6 @@
 -- Joined runs.
-use Rattle.krb_walk.proofs.Cited.{◌≡◌, ℕ, suc, ◌+◌, Bool, true, false, cond, List, [], ◌∷◌, ◌++◌, length, Option, Some, None, inl, inr, refl, sym, ap, ◌∙◌, subst, arith, nat_lt, slice_get, AllByRecursion, option_or, Event, Resume, Store, is_place, Started, Refused, is_rewritten, Rules, SessionState, after, reply_to, cursors_after, Moment, IsReady, AllLawful, history, state_after, RecordName, Track, first_names, track_on, track, last_names, last_cursor, IsTrack, IsWalk, IsThereOrResumes, Next, track_then, Join}
+use Rattle.krb_walk.proofs.Cited.{◌≡◌, ℕ, suc, ◌+◌, true, false, List, [], ◌∷◌, ◌++◌, length, Option, Some, None, inl, inr, refl, sym, ap, ◌∙◌, subst, arith, slice_get, AllByRecursion, option_or, Event, Resume, Store, is_place, Started, is_rewritten, Rules, SessionState, after, reply_to, cursors_after, Moment, IsReady, AllLawful, history, state_after, RecordName, Track, first_names, track_on, track, last_names, last_cursor, IsTrack, IsWalk, IsThereOrResumes, Next, track_then, Join}
 use Rattle.std.proofs.lemmas.Option.{slice_get_within}
-use Rattle.krb_walk.specs.declared.refusal.Code.TheVariants.{NotAPlace, TooManyWalks}
 use Rattle.krb_walk.proofs.Effects.{effect}
 use Rattle.krb_walk.proofs.Tracks.{tracks_join}
 use Rattle.krb_walk.proofs.Histories.{MadeAt, made_none, track_is}
@@ -40,14 +39,11 @@ get_last (x ∷ xs) p = get_last xs p
 not_yet : (cursors : List ℕ) (w : ℕ) → length cursors ≡ w → HasCursor cursors w → ⊥
 not_yet cursors w e is_there = omega (arith, e, slice_get_within cursors w is_there.at is_there.is)
 
-plain_resume : (b d : Bool) (k p : ℕ) → is_rewritten (cond b (cond d (Started k p) (Refused NotAPlace)) (Refused TooManyWalks)) ≡ false
-plain_resume b d k p = search arith
-
 resumes_fits : {S I : Type 0} (r : Rules S I) (s : SessionState S) (w c : ℕ) (earlier later : List (Event I)) → reply_to r (state_after r s earlier) (Resume c) ≡ Started w c → AllByRecursion (λ m. is_rewritten m.reply ≡ false) (history r s earlier) → MadeAt (Some c) r w s (earlier ++ Resume c ∷ later)
 resumes_fits r s w c [] later content plain =
     let now = resumed r s c w c content in
     let is_there : slice_get (cursors_after r s (Resume c)) w ≡ Some c = ap (λ (xs : List ℕ). slice_get xs w) now.made ∙ ap (slice_get (s.cursors ++ c ∷ [])) (sym now.number) ∙ get_last s.cursors c in
-    (record { made = λ d a is none there. cc (is_there, there, is); plain = λ d is none. plain_resume (nat_lt (length s.cursors) 1024) (is_place (r.seen s.store) c) (length s.cursors) c }, cursor_fits r (after r s (Resume c)) later w (Some c) (record { at = c; is = is_there }))
+    (record { made = λ d a is none there. cc (is_there, there, is); plain = λ d is none. (search arith) }, cursor_fits r (after r s (Resume c)) later w (Some c) (record { at = c; is = is_there }))
 resumes_fits r s w c (e ∷ earlier) later content plain = (
   record {
     made = λ d a is none there. absurd (not_yet (state_after r (after r s e) earlier).cursors w (resumed r (state_after r (after r s e) earlier) c w c content).number (cursor_to_end r (after r s e) earlier w (record { at = a; is = there })));
@@ -55,9 +51,6 @@ resumes_fits r s w c (e ∷ earlier) later content plain = (
   },
   resumes_fits r (after r s e) w c earlier later content plain.1,
 )
-
-made_at : {S I : Type 0} (r : Rules S I) (s : SessionState S) (es : List (Event I)) (w c : ℕ) → IsThereOrResumes r s es w c → MadeAt (Some c) r w s es
-made_at r s es w c on = search (arith, cursor_fits, resumes_fits)
 
 begins_none : (cursors : List ℕ) (w c : ℕ) (o : Option ℕ) → slice_get cursors w ≡ o → (HasCursor cursors w → ⊥) → option_or o (Some c) ≡ Some c
 begins_none cursors w c o is no_walk = search arith
@@ -77,9 +70,6 @@ pub length_track : {S I : Type 0} (r : Rules S I) (n w : ℕ) (names : List Reco
 length_track r n w names c [] = refl
 length_track r n w names c (m ∷ ms) = ap suc (length_track r (suc n) w _ c ms)
 
-or_none : (o : Option ℕ) → option_or o None ≡ o
-or_none o = search arith
-
 -- the track of a history is that of a walk
 pub history_walks : {S I : Type 0} (r : Rules S I) (s : SessionState S) (es : List (Event I)) (w : ℕ) → IsReady r s → AllLawful r (history r s es) → IsWalk (r.seen s.store) (slice_get s.cursors w) (track r s w (history r s es)) (r.seen (state_after r s es).store)
 history_walks r s es w ready h =
@@ -88,7 +78,7 @@ history_walks r s es w ready h =
     record {
       sound = ready.sound;
       here = λ d is. ready.cursors w d is;
-      is = subst (λ (o : Option ℕ). IsTrack 1 first (first_names first) o (track r s w (history r s es)) last) (or_none (slice_get s.cursors w)) (track_is r s es 1 w (first_names first) None ready h (made_none r w s es) (λ d is none. cc));
+      is = subst (λ (o : Option ℕ). IsTrack 1 first (first_names first) o (track r s w (history r s es)) last) (search arith) (track_is r s es 1 w (first_names first) None ready h (made_none r w s es) (λ d is none. cc));
     }
 
 -- the last cursor of a track is a place of its last store
@@ -105,7 +95,7 @@ walk_goes_on first start t last q z gs v c walk next =
     let end = q.seen (state_after q z gs).store in
     let place : is_place last c ≡ true = last_place 1 first (first_names first) start t last c walk.is walk.here next.cursor in
     let here : (d : ℕ) → Some c ≡ Some d → slice_get z.cursors v ≡ None → is_place (q.seen z.store) d ≡ true = λ d e _. (let same : c ≡ d = cc in subst (λ (m : ℕ). is_place (q.seen z.store) m ≡ true) same (subst (λ (x : Store). is_place x c ≡ true) (sym next.store) place)) in
-    let is = track_is q z gs (suc (length t)) v names (Some c) next.run.ready next.run.lawful (made_at q z gs v c next.goes_on) here in
+    let is = track_is q z gs (suc (length t)) v names (Some c) next.run.ready next.run.lawful (search (arith, cursor_fits, resumes_fits)) here in
     let cursor : option_or (slice_get z.cursors v) (Some c) ≡ last_cursor start t = begins_at q z gs v c next.goes_on ∙ sym next.cursor in
     let number : suc (length t) ≡ 1 + length t = omega arith in
     record {
@@ -124,7 +114,7 @@ joined_next r s es w q z gs v c j = record {
   run = j.next_run;
   store = j.store;
   cursor =
-      ap (λ (o : Option ℕ). last_cursor o (track r s w (history r s es))) (sym (or_none (slice_get s.cursors w)))
-      ∙ cursor_last r s es 1 w (first_names (r.seen s.store)) None ∙ or_none (slice_get (state_after r s es).cursors w) ∙ j.cursor;
+      ap (λ (o : Option ℕ). last_cursor o (track r s w (history r s es))) (sym (search arith))
+      ∙ cursor_last r s es 1 w (first_names (r.seen s.store)) None ∙ (search arith) ∙ j.cursor;
   goes_on = j.goes_on;
 }

@@ -9,7 +9,6 @@ pub mod Table
 pub mod WalkEvents
 pub mod Tracks
 pub mod Histories
-pub mod RowsAt
 pub mod Lives
 pub mod Carries
 pub mod Names
@@ -17,7 +16,6 @@ pub mod StepRows
 pub mod Ranked
 pub mod Comes
 pub mod Unique
-pub mod Parts
 pub mod Order
 pub mod ComeLaws
 pub mod Counts
@@ -25,6 +23,4 @@ pub mod Faults
 pub mod Joins
 pub mod Fair
 pub mod Steps
-pub mod Moves
-pub mod Damaged
 pub mod Runs

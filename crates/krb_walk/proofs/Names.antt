@@ -1,5 +1,5 @@
 -- The names of records follow the live cells.
-use Rattle.krb_walk.proofs.Cited.{◌≡◌, ℕ, zero, suc, ◌+◌, ◌<◌, ◌≤◌, Bool, true, false, List, [], ◌∷◌, ◌++◌, length, map, take, drop, Option, Some, None, refl, sym, ap, ◌∙◌, arith, ◌&&◌, ◌||◌, ◌==◌, insert, remove, AllByRecursion, list_any, take-map, drop-map, map-append, nat_tests, Cell, Store, Record, IsSound, Changes, ReplyContent, Placed, Gone, Rewritten, is_rewritten, live_places, rank, RecordName, first_names, names_after, take-append_seam, drop-append_seam, drop-append-add, all_join}
+use Rattle.krb_walk.proofs.Cited.{◌≡◌, ℕ, zero, suc, ◌+◌, ◌<◌, ◌≤◌, Bool, true, false, List, [], ◌∷◌, ◌++◌, length, map, take, drop, Option, Some, None, refl, sym, ap, ◌∙◌, arith, ◌==◌, insert, remove, AllByRecursion, list_any, take-map, drop-map, map-append, nat_tests, Cell, Store, Record, IsSound, Changes, ReplyContent, Placed, Gone, Rewritten, is_rewritten, live_places, rank, RecordName, first_names, names_after, take-append_seam, drop-append_seam, drop-append-add, all_join}
 use Rattle.krb_walk.proofs.Cells.{live_from, find_head, find_tail}
 use Rattle.krb_walk.proofs.Lives.{lives, lives_ge, puts_insert, cuts_insert}
 
@@ -36,9 +36,6 @@ pub first_named : (s : Store) → AreNamed s (first_names s)
 first_named s = map_place (live_places s)
 
 -- a name is alive: there is a live cell at its place
-pub or_left : (b c : Bool) → b ≡ true → (b || c) ≡ true
-or_left b c e = search arith
-
 any_ge : (m p : ℕ) (ps : List ℕ) → AllByRecursion (λ q. m ≤ q) ps → list_any (λ q. q == p) ps ≡ true → m ≤ p
 any_ge m p [] all h = cc
 any_ge m p (q ∷ ps) all h = grind (arith, nat_tests, any_ge m p ps all.1)
@@ -51,27 +48,13 @@ pub record LivesAt (at : ℕ) (cells : List Cell) (p : ℕ) : Type 0 where
   pub held : Record
   pub is : live_from at cells p ≡ Some held
 
--- a test that fails, with another
-pub and_false : (a b : Bool) → b ≡ false → (a && b) ≡ false
-and_false a b e = search arith
-
-or_rest : (b c : Bool) → b ≡ false → (b || c) ≡ true → c ≡ true
-or_rest b c e h = search arith
-
 in_lives_cons : (at w p : ℕ) (live : Option (List ℕ)) (b : Bool) (cells : List Cell) → (at == p) ≡ b → 0 < w → (list_any (λ q. q == p) (lives (at + w) cells) ≡ true → LivesAt (at + w) cells p)
     → list_any (λ q. q == p) (lives at (record { width = w; live = live } ∷ cells)) ≡ true → LivesAt at (record { width = w; live = live } ∷ cells) p
-in_lives_cons at w p None b cells e some ih h =
-    let le = any_ge (at + w) p (lives (at + w) cells) (lives_ge (at + w) cells) h in
-    let there = ih h in
-    record { held = there.held; is = find_tail at w p None cells (omega arith) ∙ there.is }
+in_lives_cons at w p None b cells e some ih h = search (arith, any_ge, lives, lives_ge, find_tail)
 in_lives_cons at w p (Some bytes) true cells e some ih h =
     let same : at ≡ p = grind (arith, nat_tests) in
     record { held = record { place = at; next = at + w; bytes = bytes }; is = ap (live_from at (record { width = w; live = Some bytes } ∷ cells)) (sym same) ∙ find_head at w (Some bytes) cells }
-in_lives_cons at w p (Some bytes) false cells e some ih h =
-    let rest = or_rest (at == p) _ e h in
-    let le = any_ge (at + w) p (lives (at + w) cells) (lives_ge (at + w) cells) rest in
-    let there = ih rest in
-    record { held = there.held; is = find_tail at w p (Some bytes) cells (omega arith) ∙ there.is }
+in_lives_cons at w p (Some bytes) false cells e some ih h = search (arith, any_ge, lives, lives_ge, find_tail)
 
 pub in_lives : (at p : ℕ) (cells : List Cell) → AllByRecursion (λ c. 0 < c.width) cells → list_any (λ q. q == p) (lives at cells) ≡ true → LivesAt at cells p
 in_lives at p [] sound h = cc

@@ -1,16 +1,13 @@
 -- A walk gives records in file order, and events keep records on their side of its cursor.
-use Rattle.krb_walk.proofs.Cited.{◌≡◌, ℕ, suc, ◌<◌, ◌≤◌, Bool, true, false, List, [], ◌∷◌, ◌++◌, Option, Some, inl, inr, refl, sym, ◌∙◌, subst, arith, ◌&&◌, AllByRecursion, Store, live_places, RecordName, WalkEvent, Track, carry_by, IsWalkEvent, IsTrack, place_of, goes_past_some, passes_record, HasTurn, ComeInTurn, KeepsSide}
-use Rattle.krb_walk.proofs.WalkEvents.{effect_of}
+use Rattle.krb_walk.proofs.Cited.{◌≡◌, ℕ, suc, ◌<◌, ◌≤◌, Bool, true, false, List, [], ◌∷◌, ◌++◌, Option, Some, inl, inr, refl, subst, arith, ◌&&◌, AllByRecursion, Store, live_places, RecordName, WalkEvent, Track, carry_by, IsWalkEvent, IsTrack, place_of, goes_past_some, passes_record, HasTurn, ComeInTurn, KeepsSide}
+use Rattle.krb_walk.proofs.WalkEvents.{find_later, effect_of}
 use Rattle.krb_walk.proofs.Ranked.{Keeps, still_after}
-use Rattle.krb_walk.proofs.Comes.{among_born, keeps_here, keeps_next, place_here, turn_later, IsBehind, behind_event, passed, comes, turn_if_row}
-use Rattle.krb_walk.proofs.Parts.{track_front}
+use Rattle.krb_walk.proofs.Comes.{among_born, keeps_here, keeps_next, place_here, IsBehind, behind_event, passed, comes, turn_if_row, track_front}
 
 -- a record that is before the cursor is before it at each later event
 behind_later : (r : RecordName) (n : ℕ) (s : Store) (names : List RecordName) (c : Option ℕ) (ys : Track) (x : WalkEvent) (later : Track) (last : Store) (d e p : ℕ) → IsTrack n s names c (ys ++ x ∷ later) last → Keeps n s names → r.birth < n
     → c ≡ Some d → IsBehind r names s d → x.from ≡ Some e → place_of r x ≡ Some p → p < e
-behind_later r n s names c [] x later last d e p h k lt at b from is =
-    let same : d ≡ e = cc (at, from, h.0.from) in
-    omega (arith, b p (sym (place_here r n s names c x h.0) ∙ is))
+behind_later r n s names c [] x later last d e p h k lt at b from is = search (arith, place_here)
 behind_later r n s names c (y ∷ ys) x later last d e p h k lt at b from is =
     let on = behind_event r n s names c y d h.0 k lt at b in
     behind_later r (suc n) y.after _ y.to ys x later last on.to e p h.1 (keeps_next n s names c y h.0 k) (omega arith) on.is on.behind from is
@@ -21,8 +18,7 @@ passed_first : (r : RecordName) (n : ℕ) (s : Store) (names : List RecordName) 
 passed_first r n s names c y ys x later last e p true now h k has from is ih =
     let was = passed r n s names c y h.0 k now in
     behind_later r (suc n) y.after _ y.to ys x later last was.on.to e p h.1 (keeps_next n s names c y h.0 k) (omega (arith, was.born)) was.on.is was.on.behind from is
-passed_first r n s names c y ys x later last e p false now h k has from is ih =
-    ih (record { at = has.at; is = sym (turn_later r y ys now) ∙ has.is; alive = has.alive })
+passed_first r n s names c y ys x later last e p false now h k has from is ih = search (arith, find_later)
 
 passed_later : (r : RecordName) (n : ℕ) (s : Store) (names : List RecordName) (c : Option ℕ) (ys : Track) (x : WalkEvent) (later : Track) (last : Store) (e p : ℕ) → IsTrack n s names c (ys ++ x ∷ later) last → Keeps n s names
     → HasTurn r ys → x.from ≡ Some e → place_of r x ≡ Some p → p < e

@@ -1,7 +1,7 @@
 -- What an addition or a removal keeps: the places, and that cursors are at places.
-use Rattle.krb_walk.proofs.Cited.{◌≡◌, ℕ, ◌+◌, ◌<◌, ◌≤◌, Bool, true, List, [], ◌∷◌, ◌++◌, map, Some, inl, inr, refl, sym, ap, ◌∙◌, arith, append_assoc, ◌||◌, ◌==◌, ◌⊎◌, AllByRecursion, map-append, append-nil, nat_tests, Cell, Store, end_from, end_of, is_place_from, is_place, next_live, IsSound, OneCell, Appends, Puts, Cuts, stop_cursor, all_join}
+use Rattle.krb_walk.proofs.Cited.{◌≡◌, ℕ, ◌+◌, ◌<◌, ◌≤◌, Bool, true, List, [], ◌∷◌, ◌++◌, map, Some, inl, inr, refl, sym, ap, ◌∙◌, arith, append_assoc, ◌||◌, ◌==◌, ◌⊎◌, AllByRecursion, map-append, append-nil, nat_tests, Cell, Store, end_from, end_of, is_place_from, is_place, next_live, IsSound, Appends, Puts, Cuts, stop_cursor, all_join}
 use Rattle.krb_walk.proofs.Stops.{next_stops, end_from-ge, is_place_from-first}
-use Rattle.krb_walk.proofs.Cells.{stop_from, stop_skips}
+use Rattle.krb_walk.proofs.Cells.{stop_from}
 
 abbrev pub widths : List Cell → List ℕ
 widths cells = map (λ c. c.width) cells
@@ -19,17 +19,6 @@ extends_self s = record { first = refl; more = []; widths_are = sym (append-nil 
 pub extends_on : (a b c : Store) → Extends a b → Extends b c → Extends a c
 extends_on a b c e f = search (arith, append_assoc, all_join)
 
-one_cell : (old new : Store) (p : ℕ) (was is : Cell) → OneCell old new p was is → is.width ≡ was.width → Extends old new
-one_cell old new p was is one same = record {
-  first = one.first;
-  more = [];
-  widths_are = ap widths one.new_cells ∙ map-append (λ c. c.width) one.before (is ∷ one.after)
-      ∙ ap (λ w. widths one.before ++ w ∷ widths one.after) same
-      ∙ sym (ap widths one.old_cells ∙ map-append (λ c. c.width) one.before (was ∷ one.after))
-      ∙ sym (append-nil (widths old.cells));
-  some = tt;
-}
-
 appends-extends : (old new : Store) (p : ℕ) → Appends old new p → Extends old new
 appends-extends old new p a = record {
   first = a.first;
@@ -39,10 +28,10 @@ appends-extends old new p a = record {
 }
 
 pub puts-extends : (old new : Store) (p : ℕ) → Puts old new p → Extends old new
-puts-extends old new p h = elim h.how [ inl f ↦ one_cell old new p _ _ f.cell refl | inr a ↦ appends-extends old new p a ]
+puts-extends old new p h = elim h.how [ inl f ↦ search (arith, map-append, append-nil) | inr a ↦ appends-extends old new p a ]
 
 pub cuts-extends : (old new : Store) (p : ℕ) → Cuts old new p → Extends old new
-cuts-extends old new p h = one_cell old new p _ _ h.how.cell refl
+cuts-extends old new p h = search (arith, map-append, append-nil)
 
 -- soundness, by the widths
 sound-widths : (cells : List Cell) → AllByRecursion (λ c. 0 < c.width) cells → AllByRecursion (λ w. 0 < w) (widths cells)
@@ -91,16 +80,12 @@ pub place_in : (at : ℕ) (cells : List Cell) (p : ℕ) → is_place_from at cel
 place_in at [] p h = let e : at ≡ p = grind (arith, nat_tests) in omega arith
 place_in at (c ∷ cells) p h = search (arith, or_cases, end_from-ge, place_in (at + c.width) cells p)
 
--- the place that a step leads to
-pub or_true : (b c : Bool) → c ≡ true → (b || c) ≡ true
-or_true b c e = search arith
-
 abbrev StopsAtPlace : ℕ → List Cell → ℕ → Type 0
 StopsAtPlace at cells c = is_place_from at cells (stop_from at cells c) ≡ true
 
 stop_place_from : (at c : ℕ) (cells : List Cell) → StopsAtPlace at cells c
 stop_place_from at c [] = is_place_from-first at []
-stop_place_from at c (x ∷ cells) = search (arith, is_place_from-first, next_stops, or_true, stop_skips, stop_place_from (at + x.width) c cells)
+stop_place_from at c (x ∷ cells) = search (arith, is_place_from-first, next_stops, stop_place_from (at + x.width) c cells)
 
 -- a step leads to a place
 pub stop_place : (s : Store) (c : ℕ) → is_place s (stop_cursor (end_of s) (next_live s c)) ≡ true

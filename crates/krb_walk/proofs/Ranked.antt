@@ -1,12 +1,8 @@
 -- Each record comes as it is due, along a track on which the store may be rewritten.
-use Rattle.krb_walk.proofs.Cited.{◌≡◌, ℕ, zero, suc, ◌<◌, ◌≤◌, Bool, true, false, cond, List, [], ◌∷◌, ◌++◌, length, map, take, drop, Option, Some, None, inl, inr, refl, sym, ap, ◌∙◌, subst, arith, ◌||◌, ◌==◌, ◌⊎◌, list_any, nat_tests, Store, end_of, IsSound, live_places, rank, Changes, ReplyContent, Placed, Gone, Rewritten, RecordName, first_names, names_after, carry_by, is_name, place_among}
+use Rattle.krb_walk.proofs.Cited.{◌≡◌, ℕ, zero, suc, ◌<◌, ◌≤◌, Bool, true, false, cond, List, [], ◌∷◌, ◌++◌, length, map, take, drop, Option, Some, None, inl, inr, refl, sym, ap, ◌∙◌, subst, arith, ◌==◌, ◌⊎◌, list_any, nat_tests, Store, IsSound, live_places, rank, Changes, ReplyContent, Placed, Gone, Rewritten, RecordName, first_names, names_after, carry_by, is_name, place_among, length-map, length-append, length-take, length-drop}
 use Rattle.krb_walk.proofs.Lives.{puts_insert, cuts_insert}
-use Rattle.krb_walk.proofs.Names.{AreBorn, born_after, first_born, and_false}
+use Rattle.krb_walk.proofs.Names.{AreBorn, born_after, first_born}
 use Rattle.krb_walk.proofs.Carries.{Rises, places_rise, SameSide, carry_same_side, still_some}
-
--- neither of two tests
-right_false : (a b : Bool) → (a || b) ≡ false → b ≡ false
-right_false a b e = search arith
 
 -- names of which no two are the same
 abbrev pub AreDistinct : List RecordName → Type 0
@@ -14,7 +10,7 @@ AreDistinct [] = Unit {0}
 AreDistinct (x ∷ names) = (list_any (is_name x) names ≡ false) × AreDistinct names
 
 younger : (r x : RecordName) → r.birth < x.birth → is_name r x ≡ false
-younger r x lt = let e : (r.birth == x.birth) ≡ false = grind (arith, nat_tests) in and_false (r.place == x.place) _ e
+younger r x lt = let e : (r.birth == x.birth) ≡ false = grind (arith, nat_tests) in search arith
 
 pub unborn : (n : ℕ) (r : RecordName) (names : List RecordName) → AreBorn n names → n ≤ r.birth → list_any (is_name r) names ≡ false
 unborn n r [] h le = refl
@@ -23,18 +19,18 @@ unborn n r (x ∷ names) h le = grind (arith, nat_tests, unborn n r names h.1 le
 pub among_none : (r : RecordName) (names : List RecordName) (ps : List ℕ) → list_any (is_name r) names ≡ false → place_among r names ps ≡ None
 among_none r [] ps e = refl
 among_none r (x ∷ names) [] e = refl
-among_none r (x ∷ names) (p ∷ ps) e = search (arith, among_none r names ps (right_false (is_name r x) _ e))
+among_none r (x ∷ names) (p ∷ ps) e = search (arith, among_none r names ps (search arith))
 
 any_insert : (f : RecordName → Bool) (k : ℕ) (names : List RecordName) (nm : RecordName) → f nm ≡ false → list_any f names ≡ false → list_any f (take k names ++ nm ∷ drop k names) ≡ false
 any_insert f zero names nm e h = search arith
 any_insert f (suc k) [] nm e h = search arith
-any_insert f (suc k) (x ∷ names) nm e h = search (arith, any_insert f k names nm e (right_false (f x) _ h))
+any_insert f (suc k) (x ∷ names) nm e h = search (arith, any_insert f k names nm e (search arith))
 
 any_remove : (f : RecordName → Bool) (k : ℕ) (names : List RecordName) → list_any f names ≡ false → list_any f (take k names ++ drop (suc k) names) ≡ false
 any_remove f zero [] h = refl
 any_remove f zero (x ∷ names) h = search arith
 any_remove f (suc k) [] h = refl
-any_remove f (suc k) (x ∷ names) h = search (arith, any_remove f k names (right_false (f x) _ h))
+any_remove f (suc k) (x ∷ names) h = search (arith, any_remove f k names (search arith))
 
 distinct_insert : (n p k : ℕ) (names : List RecordName) → AreDistinct names → AreBorn n names → AreDistinct (take k names ++ record { place = p; birth = n } ∷ drop k names)
 distinct_insert n p zero names d h = (unborn n (record { place = p; birth = n }) names h (omega arith), d)
@@ -57,19 +53,10 @@ first_distinct_of lo end (p ∷ ps) h = (first_apart p (suc p) end ps (omega ari
 
 -- lengths
 len_insert : (front back : List ℕ) (p : ℕ) (nm : RecordName) (names : List RecordName) → length names ≡ length (front ++ back) → length (take (length front) names ++ nm ∷ drop (length front) names) ≡ length (front ++ p ∷ back)
-len_insert [] back p nm names e = ap suc e
-len_insert (q ∷ front) back p nm [] e = absurd (omega (arith, e))
-len_insert (q ∷ front) back p nm (x ∷ names) e = ap suc (len_insert front back p nm names (let s : length names ≡ length (front ++ back) = omega (arith, e) in s))
+len_insert front back p nm names e = search (arith, length-append, length-take, length-drop)
 
 len_remove : (front back : List ℕ) (p : ℕ) (names : List RecordName) → length names ≡ length (front ++ p ∷ back) → length (take (length front) names ++ drop (suc (length front)) names) ≡ length (front ++ back)
-len_remove [] back p [] e = absurd (omega (arith, e))
-len_remove [] back p (x ∷ names) e = let s : length names ≡ length back = omega (arith, e) in s
-len_remove (q ∷ front) back p [] e = absurd (omega (arith, e))
-len_remove (q ∷ front) back p (x ∷ names) e = ap suc (len_remove front back p names (let s : length names ≡ length (front ++ p ∷ back) = omega (arith, e) in s))
-
-len_first : (ps : List ℕ) → length (map {A = ℕ} {B = RecordName} (λ p. record { place = p; birth = 0 }) ps) ≡ length ps
-len_first [] = refl
-len_first (p ∷ ps) = ap suc (len_first ps)
+len_remove front back p names e = search (arith, length-append, length-take, length-drop)
 
 -- names that fit the live cells: as many, all born, and no two the same
 pub record Keeps (n : ℕ) (s : Store) (names : List RecordName) : Type 0 where
@@ -78,11 +65,7 @@ pub record Keeps (n : ℕ) (s : Store) (names : List RecordName) : Type 0 where
   pub distinct : AreDistinct names
 
 pub first_keeps : (s : Store) → IsSound s → Keeps 1 s (first_names s)
-first_keeps s sound = record {
-  as_many = len_first (live_places s);
-  born = first_born s;
-  distinct = first_distinct_of s.first (end_of s) (live_places s) (places_rise s sound);
-}
+first_keeps s sound = search (arith, length-map, first_born, first_distinct_of, places_rise)
 
 pub keeps_after : (n : ℕ) (content : ReplyContent) (old new : Store) (names : List RecordName) → IsSound old → Changes content old new → Keeps n old names → Keeps (suc n) new (names_after n content old new names)
 keeps_after n (Placed p) old new names sound h k =
@@ -120,11 +103,8 @@ among_insert r nm p [] back names diff e = ap (λ (b : Bool). cond b (Some p) (p
 among_insert r nm p (q ∷ front) back [] diff e = absurd (omega (arith, e))
 among_insert r nm p (q ∷ front) back (x ∷ names) diff e = ap (λ (o : Option ℕ). cond (is_name r x) (Some q) o) (among_insert r nm p front back names diff (let s : length names ≡ length (front ++ back) = omega (arith, e) in s))
 
-pub same_name_is : (r x : RecordName) → is_name r x ≡ true → r ≡ x
-same_name_is r x e = search arith
-
 among_removed : (r x : RecordName) (p : ℕ) (b : Bool) (names : List RecordName) (back : List ℕ) → is_name r x ≡ b → list_any (is_name x) names ≡ false → (place_among r names back ≡ None) ⊎ (place_among r names back ≡ cond b (Some p) (place_among r names back))
-among_removed r x p true names back e d = let same : r ≡ x = same_name_is r x e in inl (among_none r names back (subst (λ (y : RecordName). list_any (is_name y) names ≡ false) (sym same) d))
+among_removed r x p true names back e d = let same : r ≡ x = search arith in inl (among_none r names back (subst (λ (y : RecordName). list_any (is_name y) names ≡ false) (sym same) d))
 among_removed r x p false names back e d = inr refl
 
 among_later : (b : Bool) (q : ℕ) (after before : Option ℕ) → (after ≡ None) ⊎ (after ≡ before) → (cond b (Some q) after ≡ None) ⊎ (cond b (Some q) after ≡ cond b (Some q) before)
@@ -139,9 +119,7 @@ among_remove r p (q ∷ front) back (x ∷ names) d e = among_later (is_name r x
 
 rewrite_still : (r : RecordName) (old new : Store) (names : List RecordName) (c d : ℕ) (was is : Option ℕ) → place_among r names (live_places old) ≡ was → place_among r names (live_places new) ≡ is → length (live_places new) ≡ length (live_places old)
     → ((p q : ℕ) → was ≡ Some p → is ≡ Some q → SameSide c d p q) → (is ≡ None) ⊎ Still was is c d
-rewrite_still r old new names c d was None a b e side = inl refl
-rewrite_still r old new names c d None (Some q) a b e side = cc (still_some r names (live_places new) (live_places old) e a, b)
-rewrite_still r old new names c d (Some p) (Some q) a b e side = inr (record { p = p; q = q; was_at = refl; is_at = refl; side = side p q refl refl })
+rewrite_still r old new names c d was is a b e side = search (arith, still_some)
 
 -- an event keeps a record on its side of each cursor, or the record is gone
 pub still_after : (n : ℕ) (content : ReplyContent) (old new : Store) (names : List RecordName) (r : RecordName) (c : ℕ) → IsSound old → Changes content old new → Keeps n old names → r.birth < n

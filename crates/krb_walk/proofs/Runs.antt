@@ -1,9 +1,15 @@
--- Extending a run by one event.
-use Rattle.krb_walk.proofs.Cited.{IfOk, OnOk, OnErr, ◌≡◌, ℕ, Result, List, [], ◌∷◌, ◌++◌, refl, sym, ap, ◌∙◌, subst, append_assoc, append-nil, Event, Step, ReplyContent, content_of, Rules, SessionState, after, reply_to, IsReady, IsLawful, AllLawful, moment, history, state_after, replies, track_of, due_over, Ran, arith, IsFair}
+-- A run extended by one event, and runs over a store with a fault.
+use Rattle.krb_walk.proofs.Cited.{◌≡◌, List, [], ◌∷◌, Some, refl, AllByRecursion, Event, FaultKind, Rules, SessionState, after, AllLawful, history, state_after, arith, RefusesChange, RefusesChanges, IfOk, OnOk, OnErr, ℕ, Result, ◌++◌, sym, ap, ◌∙◌, subst, append_assoc, append-nil, Step, ReplyContent, content_of, reply_to, IsReady, IsLawful, moment, replies, track_of, due_over, Ran, IsFair}
 use Rattle.krb_walk.specs.declared.event.Reply.{Reply}
-use Rattle.krb_walk.proofs.Effects.{ready_to_last, lawful_step}
+use Rattle.krb_walk.proofs.Effects.{ready_to_last}
 use Rattle.krb_walk.proofs.Fair.{history_fair, gives_due, gives_due_at_places}
-use Rattle.krb_walk.proofs.Damaged.{damaged_refuses}
+
+damaged_by : {S I : Type 0} (r : Rules S I) (s : SessionState S) (es : List (Event I)) (kind : FaultKind) → (r.seen s.store).fault ≡ Some kind → AllLawful r (history r s es) → AllByRecursion (λ m. RefusesChange m.event m.reply) (history r s es) × ((state_after r s es).store ≡ s.store)
+damaged_by r s [] kind fault h = (tt, refl)
+damaged_by {S} r s (e ∷ es) kind fault h = search (arith, damaged_by r (after r s e) es kind)
+
+pub damaged_refuses : {S I : Type 0} (r : Rules S I) (s : SessionState S) (es : List (Event I)) (kind : FaultKind) → (r.seen s.store).fault ≡ Some kind → AllLawful r (history r s es) → RefusesChanges r s es
+damaged_refuses r s es kind fault h = let both = damaged_by r s es kind fault h in record { refused = both.0; stays = both.1 }
 
 replies_more : {S I : Type 0} (r : Rules S I) (s : SessionState S) (es : List (Event I)) (e : Event I) → replies (history r s (es ++ e ∷ [])) ≡ replies (history r s es) ++ reply_to r (state_after r s es) e ∷ []
 replies_more r s [] e = refl
@@ -47,7 +53,7 @@ ran_one r old new e content ready says is lawful = ran_of r old new (e ∷ []) [
 
 -- a step whose reply is not appended
 pub ran_step : {S I : Type 0} (r : Rules S I) (old new : SessionState S) (w : ℕ) → IsReady r old → new ≡ after {I = I} r old (Step w) → Ran {I = I} r old new (Step w ∷ []) [] (reply_to {I = I} r old (Step w) ∷ [])
-ran_step r old new w ready is = ran_one r old new (Step w) _ ready refl is (lawful_step r old w)
+ran_step r old new w ready is = ran_one r old new (Step w) _ ready refl is (search arith)
 
 -- an event that is applied, or runs out of memory
 pub ran_applied : {S I A E : Type 0} (r : Rules S I) (old new : SessionState S) (e : Event I) (result : Result (Reply A) E) → IsReady r old → IfOk result (λ x. content_of x ≡ reply_to r old e) → OnOk result (new ≡ after r old e) → OnOk result (IsLawful r (moment r old e)) → IfOk result (λ x. Ran r old new (e ∷ []) [] (content_of x ∷ []))

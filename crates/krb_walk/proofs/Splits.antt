@@ -1,6 +1,6 @@
 -- Cells split at a place: lemmas for implementations of `Placed`.
-use Rattle.krb_walk.proofs.Cited.{◌≡◌, ℕ, ◌+◌, ◌<◌, ◌≤◌, Bool, true, false, List, [], ◌∷◌, ◌++◌, Option, Some, None, refl, sym, ap, ◌∙◌, arith, ◌&&◌, ◌==◌, nat_le, is_some, AllByRecursion, nat_tests, Cell, end_from, is_place_from, FaultKind, fault_from}
-use Rattle.krb_walk.proofs.Stops.{next_from, bytes_from, next_skips, end_from-ge, is_place_from-first, is_place_from-cons}
+use Rattle.krb_walk.proofs.Cited.{◌≡◌, ℕ, ◌+◌, ◌<◌, ◌≤◌, Bool, true, false, List, [], ◌∷◌, ◌++◌, Option, Some, None, refl, ap, arith, ◌==◌, is_some, AllByRecursion, Cell, end_from, is_place_from, FaultKind, fault_from}
+use Rattle.krb_walk.proofs.Stops.{next_from, bytes_from, end_from-ge, is_place_from-first, is_place_from-cons}
 use Rattle.krb_walk.proofs.Cells.{find_head, find_tail}
 
 -- ---- from a split
@@ -18,18 +18,12 @@ split_is_place at (c ∷ before) after = is_place_from-cons at c.width (end_from
 -- a look-up of the next record at or after a split skips the cells before it
 pub next_ahead : (at p : ℕ) (before after : List Cell) → AllByRecursion (λ c. 0 < c.width) before → end_from at before ≤ p → next_from at (before ++ after) p ≡ next_from (end_from at before) after p
 next_ahead at p [] after sound le = refl
-next_ahead at p (c ∷ before) after sound le =
-    let behind : at < p = omega (arith, end_from-ge (at + c.width) before, sound.0, le) in
-    let skip : (nat_le p at && is_some c.live) ≡ false = grind (arith, nat_tests) in
-    next_skips at p c.width c.live (before ++ after) skip ∙ next_ahead (at + c.width) p before after sound.1 le
+next_ahead at p (c ∷ before) after sound le = search (arith, end_from-ge, next_ahead (at + c.width) p before after sound.1 le)
 
 -- so does a look-up of bytes
 pub bytes_ahead : (at p : ℕ) (before after : List Cell) → AllByRecursion (λ c. 0 < c.width) before → end_from at before ≤ p → bytes_from at (before ++ after) p ≡ bytes_from (end_from at before) after p
 bytes_ahead at p [] after sound le = refl
 bytes_ahead at p (c ∷ before) after sound le = search (arith, find_tail, end_from-ge, bytes_ahead (at + c.width) p before after sound.1 le)
-
-bytes_of_cell : (at w : ℕ) (live : Option (List ℕ)) (cells : List Cell) → bytes_from at (record { width = w; live = live } ∷ cells) at ≡ live
-bytes_of_cell at w live cells = grind (arith, nat_tests)
 
 -- the bytes at a split are those of the cell there
 pub bytes_here : (at w : ℕ) (live : Option (List ℕ)) (before after : List Cell) → AllByRecursion (λ c. 0 < c.width) before → bytes_from at (before ++ record { width = w; live = live } ∷ after) (end_from at before) ≡ live
@@ -53,9 +47,7 @@ live_splits_here : (at w p : ℕ) (live : Option (List ℕ)) (cells : List Cell)
 live_splits_here at w p live cells bytes same is = record { before = []; width = w; after = cells; place = same; is = ap (λ (l : Option (List ℕ)). record { width = w; live = l } ∷ cells) is }
 
 live_splits_cons : (at w p : ℕ) (live : Option (List ℕ)) (cells : List Cell) (bytes : List ℕ) (b : Bool) → (at == p) ≡ b → (bytes_from (at + w) cells p ≡ Some bytes → SplitsLive (at + w) cells p bytes) → bytes_from at (record { width = w; live = live } ∷ cells) p ≡ Some bytes → SplitsLive at (record { width = w; live = live } ∷ cells) p bytes
-live_splits_cons at w p live cells bytes true e ih is =
-    let same : p ≡ at = grind (arith, nat_tests) in
-    live_splits_here at w p live cells bytes same (sym (bytes_of_cell at w live cells) ∙ sym (ap (bytes_from at (record { width = w; live = live } ∷ cells)) same) ∙ is)
+live_splits_cons at w p live cells bytes true e ih is = search (arith, live_splits_here, bytes_from)
 live_splits_cons at w p live cells bytes false e ih is =
     let rest = ih (rw e at is) in
     record { before = record { width = w; live = live } ∷ rest.before; width = rest.width; after = rest.after; place = rest.place; is = ap (λ (cs : List Cell). record { width = w; live = live } ∷ cs) rest.is }

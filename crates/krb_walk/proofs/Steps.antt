@@ -1,25 +1,18 @@
 -- The replies to steps, how cursors move, and that places stay.
-use Rattle.krb_walk.proofs.Cited.{◌≡◌, ◌≢◌, ℕ, ◌+◌, ◌<◌, ◌≤◌, true, false, cond, List, [], ◌∷◌, ◌++◌, length, Option, Some, None, inl, inr, refl, sym, ap, ◌∙◌, subst, arith, ◌&&◌, ◌==◌, ◌⊎◌, nat_lt, slice_get, IsSomeAnd, find, option_map, Event, Start, Resume, Step, Put, Cut, Rewrite, Cell, Store, standing, end_of, is_place, size_at, Placed, is_rewritten, Rules, SessionState, after, reply_to, IsReady, IsLawful, AllLawful, AllPlain, moment, history, state_after, AnswersStep}
-use Rattle.krb_walk.proofs.Lists.{get-set_other}
+use Rattle.krb_walk.proofs.Cited.{◌≡◌, ◌≢◌, ℕ, ◌+◌, ◌<◌, ◌≤◌, true, false, cond, List, [], ◌∷◌, ◌++◌, Option, Some, None, inl, inr, refl, sym, ap, ◌∙◌, subst, arith, ◌==◌, ◌⊎◌, slice_get, IsSomeAnd, find, option_map, Event, Step, Put, Cell, Store, standing, end_of, is_place, size_at, Placed, is_rewritten, Rules, SessionState, after, reply_to, IsReady, IsLawful, AllLawful, AllPlain, moment, history, state_after, AnswersStep}
+use Rattle.krb_walk.proofs.Lists.{get-append, get-set_other, get-set_same}
 use Rattle.krb_walk.proofs.Splits.{end_from-append}
 use Rattle.krb_walk.proofs.Places.{Extends, place_kept, stop_forward, widths}
-use Rattle.krb_walk.proofs.Effects.{effect, own_step, ready_after, history_extends, get_push_cond}
+use Rattle.krb_walk.proofs.Effects.{effect, ready_after, history_extends}
 use Rattle.krb_walk.proofs.WalkEvents.{carry_by-same}
 
 -- the reply to a step
 pub step_answered : {S I : Type 0} (r : Rules S I) (s : SessionState S) (w c : ℕ) → slice_get s.cursors w ≡ Some c → IsSomeAnd (slice_get (after {I = I} r s (Step w)).cursors w) (AnswersStep (r.seen s.store) w c (reply_to {I = I} r s (Step w)))
-step_answered {I = I} r s w c at =
-    let moves = own_step r s w c at in
-    subst (λ (o : Option ℕ). IsSomeAnd o (AnswersStep (r.seen s.store) w c (reply_to {I = I} r s (Step w)))) (sym moves.is_there) moves.answered
+step_answered r s w c at = search (arith, get-set_same)
 
 -- a cursor moves only at a step of its walk
 pub only_steps : {S I : Type 0} (r : Rules S I) (s : SessionState S) (e : Event I) (w c : ℕ) → slice_get s.cursors w ≡ Some c → e ≢ Step w → is_rewritten (reply_to r s e) ≡ false → slice_get (after r s e).cursors w ≡ Some c
-only_steps r s Start w c at ne kept = get_push_cond (nat_lt (length s.cursors) 1024) s.cursors (r.seen s.store).first w c at
-only_steps r s (Resume p) w c at ne kept = get_push_cond (nat_lt (length s.cursors) 1024 && is_place (r.seen s.store) p) s.cursors p w c at
-only_steps {I = I} r s (Step v) w c at ne kept = search (arith, get_push_cond, get-set_other)
-only_steps r s (Put item) w c at ne kept = at
-only_steps r s (Cut p) w c at ne kept = at
-only_steps r s Rewrite w c at ne kept = search (arith, get_push_cond, get-set_other)
+only_steps r s e w c at ne kept = search (arith, get-append, get-set_other)
 
 -- a cursor never goes back
 pub never_back : {S I : Type 0} (r : Rules S I) (s : SessionState S) (es : List (Event I)) (w b c : ℕ) → IsReady r s → AllPlain (history r s es) → AllLawful r (history r s es) → slice_get s.cursors w ≡ Some c → b ≤ c → IsSomeAnd (slice_get (state_after r s es).cursors w) (λ d. b ≤ d)

@@ -1,5 +1,5 @@
 -- Where a walk stops: at the first record left.
-use Rattle.krb_walk.proofs.Cited.{◌≡◌, ℕ, ◌+◌, ◌<◌, ◌≤◌, Bool, true, false, List, [], ◌∷◌, Option, Some, None, refl, sym, ap, subst, ◌∙◌, arith, ◌&&◌, ◌==◌, nat_le, is_some, filter, find, filter_map, AllByRecursion, nat_tests, leb-true, leb-false, le-leb, Cell, Record, standing, end_from, is_place_from, record_of, record_of_some, bytes_of_some, StopsEnd, StopsGiveRecords, WalksBeginWithAll}
+use Rattle.krb_walk.proofs.Cited.{◌≡◌, ℕ, ◌+◌, ◌<◌, ◌≤◌, Bool, true, List, [], ◌∷◌, Option, Some, None, refl, arith, ◌&&◌, ◌==◌, nat_le, is_some, filter, find, filter_map, AllByRecursion, nat_tests, leb-true, leb-false, le-leb, Cell, Record, standing, end_from, is_place_from, record_of, record_of_some, bytes_of_some, StopsEnd, StopsGiveRecords, WalksBeginWithAll}
 
 -- the first record at or after p, the records, and the cell at p, of cells from a place on
 abbrev pub next_from : ℕ → List Cell → ℕ → Option Record
@@ -19,29 +19,14 @@ pub end_from-ge : (at : ℕ) (cells : List Cell) → at ≤ end_from at cells
 end_from-ge at [] = omega arith
 end_from-ge at (c ∷ cells) = omega (arith, end_from-ge (at + c.width) cells)
 
--- a cell that is passed
-pub next_skips : (at p w : ℕ) (live : Option (List ℕ)) (cells : List Cell) → (nat_le p at && is_some live) ≡ false → next_from at (record { width = w; live = live } ∷ cells) p ≡ next_from (at + w) cells p
-next_skips at p w live cells e = rw e refl
-
 -- a live cell at or after p
 pub next_stops : (at p w : ℕ) (bytes : List ℕ) (cells : List Cell) → p ≤ at → next_from at (record { width = w; live = Some bytes } ∷ cells) p ≡ Some (record { place = at; next = at + w; bytes = bytes })
 next_stops at p w bytes cells le = rw (le-leb p at le) refl
-
--- a free cell is passed, wherever it is
-free_is_passed : (at p : ℕ) → (nat_le p at && false) ≡ false
-free_is_passed at p = grind (arith, nat_tests)
 
 -- from their first place, or from before it, all records are left
 all_left : (at p : ℕ) (cells : List Cell) → p ≤ at → left p (records_of at cells) ≡ records_of at cells
 all_left at p [] le = refl
 all_left at p (c ∷ cells) le = search (arith, all_left (at + c.width) p cells (omega arith))
-
--- a cell that begins before a place is not among the records left there
-left_behind : (at w q : ℕ) (live : Option (List ℕ)) (cells : List Cell) → at < q → left q (records_of at (record { width = w; live = live } ∷ cells)) ≡ left q (records_of (at + w) cells)
-left_behind at w q live cells lt = search arith
-
-bytes_here : (at w : ℕ) (bytes : List ℕ) (cells : List Cell) → bytes_from at (record { width = w; live = Some bytes } ∷ cells) at ≡ Some bytes
-bytes_here at w bytes cells = let e : (at == at) ≡ true = grind (arith, nat_tests) in rw e refl
 
 -- the first place of cells is a place
 pub is_place_from-first : (at : ℕ) (cells : List Cell) → is_place_from at cells at ≡ true
@@ -61,39 +46,8 @@ pub record Found (at : ℕ) (cells : List Cell) (p : ℕ) (r : Record) : Type 0 
   pub ahead : r.place < r.next
   pub within : r.next ≤ end_from at cells
 
--- the record is found after a cell that is passed
-found_after : (at w p : ℕ) (live : Option (List ℕ)) (cells : List Cell) (r : Record) → 0 < w → left p (records_of at (record { width = w; live = live } ∷ cells)) ≡ left p (records_of (at + w) cells) → Found (at + w) cells p r → Found at (record { width = w; live = live } ∷ cells) p r
-found_after at w p live cells r some same rest = grind (arith, nat_tests)
-
--- or the record is the first cell
-found_here : (at w p : ℕ) (bytes : List ℕ) (cells : List Cell) → 0 < w → p ≤ at → Found at (record { width = w; live = Some bytes } ∷ cells) p (record { place = at; next = at + w; bytes = bytes })
-found_here at w p bytes cells some le =
-    let after : left p (records_of (at + w) cells) ≡ left (at + w) (records_of (at + w) cells) = all_left (at + w) p cells (omega arith) ∙ sym (all_left (at + w) (at + w) cells (omega arith)) in
-    let first : Record = record { place = at; next = at + w; bytes = bytes } in
-    record {
-      first = rw (le-leb p at le) (ap (λ (rs : List Record). first ∷ rs) (after ∙ sym (left_behind at w (at + w) (Some bytes) cells (omega arith))));
-      bytes = bytes_here at w bytes cells;
-      place = is_place_from-cons at w (at + w) (Some bytes) cells (is_place_from-first (at + w) cells);
-      begins = omega arith;
-      at_or_after = le;
-      ahead = omega arith;
-      within = end_from-ge (at + w) cells;
-    }
-
--- a free cell does not change the records left
-left_free : (at w p : ℕ) (cells : List Cell) → left p (records_of at (record { width = w; live = None } ∷ cells)) ≡ left p (records_of (at + w) cells)
-left_free at w p cells = refl
-
 found_cons : (at w p : ℕ) (live : Option (List ℕ)) (b : Bool) (cells : List Cell) (r : Record) → nat_le p at ≡ b → 0 < w → (next_from (at + w) cells p ≡ Some r → Found (at + w) cells p r) → next_from at (record { width = w; live = live } ∷ cells) p ≡ Some r → Found at (record { width = w; live = live } ∷ cells) p r
-found_cons at w p (Some bytes) true cells r e some ih is =
-    let le = leb-true p at e in
-    let here : record { place = at; next = at + w; bytes = bytes } ≡ r = cc (next_stops at p w bytes cells le, is) in
-    subst (Found at (record { width = w; live = Some bytes } ∷ cells) p) here (found_here at w p bytes cells some le)
-found_cons at w p None b cells r e some ih is =
-    found_after at w p None cells r some (left_free at w p cells) (ih (sym (next_skips at p w None cells (free_is_passed at p)) ∙ is))
-found_cons at w p (Some bytes) false cells r e some ih is =
-    let skip : (nat_le p at && true) ≡ false = rw e refl in
-    found_after at w p (Some bytes) cells r some (left_behind at w p (Some bytes) cells (leb-false p at e)) (ih (sym (next_skips at p w (Some bytes) cells skip) ∙ is))
+found_cons at w p live b cells r e some ih is = search (arith, leb-true, next_stops, all_left, le-leb, is_place_from-cons, is_place_from-first, end_from-ge, leb-false)
 
 pub found : (at p : ℕ) (cells : List Cell) (r : Record) → AllByRecursion (λ c. 0 < c.width) cells → next_from at cells p ≡ Some r → Found at cells p r
 found at p [] r sound is = cc

@@ -1,5 +1,5 @@
--- How the events change a session's table of cursors.
-use Rattle.krb_walk.proofs.Cited.{◌≡◌, ℕ, ◌<◌, ◌≤◌, true, List, ◌++◌, length, map, take, drop, set, Result, Ok, Err, refl, sym, ap, ◌∙◌, subst, arith, IfOk, OnOk, OnErr, slice_get, length-take, length-append, length-map, take-append-drop, Code, Store, end_of, stop_at, next_live, is_place, Puts, Cuts, carry, Rewrites, Rules, PutGives, CutGives, RewriteGives, SessionState, stop_cursor, take-set-lt, take-append_seam, IsKept, place_after}
+-- How the events change a session's table of cursors, and its state after a step.
+use Rattle.krb_walk.proofs.Cited.{◌≡◌, ℕ, ◌<◌, ◌≤◌, true, List, ◌++◌, length, map, take, drop, set, Result, Ok, Err, refl, sym, ap, ◌∙◌, subst, arith, IfOk, OnOk, OnErr, slice_get, length-take, length-append, length-map, take-append-drop, Code, Store, end_of, stop_at, next_live, is_place, Puts, Cuts, carry, Rewrites, Rules, PutGives, CutGives, RewriteGives, SessionState, stop_cursor, take-set-lt, take-append_seam, IsKept, place_after, slice_set, Option, Some, None, Step, session_of, after, step_cursors}
 use Rattle.krb_walk.specs.declared.refusal.Refusal.{Refusal}
 use Rattle.krb_walk.specs.declared.refusal.Refusal.TheVariants.{Code as ByCode, NoMemory}
 use Rattle.krb_walk.proofs.Places.{Extends, puts-extends, cuts-extends, sound_kept, place_kept}
@@ -15,9 +15,7 @@ place_after-stop_at s c = search arith
 
 -- a cursor is written
 pub go_shown : {S : Type 0} (s : SessionState S) (store : S) (table : List ℕ) (count walk to : ℕ) → shown store table count ≡ s → walk < length s.cursors → shown store (set table walk to) count ≡ record { store = s.store; cursors = set s.cursors walk to }
-go_shown {S} s store table count walk to is is_there =
-    let within : walk < count = omega (arith, is_there, length-take count table, ap (λ (x : SessionState S). length x.cursors) is) in
-    ap (λ (cs : List ℕ). record { store = store; cursors = cs }) (take-set-lt count table walk to within) ∙ ap (λ (x : SessionState S). record { store = x.store; cursors = set x.cursors walk to }) is
+go_shown {S} s store table count walk to is is_there = search (arith, length-take, take-set-lt)
 
 -- a change of the store without a rewrite keeps the table valid
 extends_kept : {S I : Type 0} (r : Rules S I) (old new : S) (table : List ℕ) (count : ℕ) → Extends (r.seen old) (r.seen new) → IsKept r old table count → IsKept r new table count
@@ -64,3 +62,18 @@ rewrite_kept r old new (Ok done) table now count gives rewrites carries keeps ke
     subst (λ (l : List ℕ). IsKept r new l count) (sym carries) (carried_kept r old new front (drop count table) (map (carry (r.seen old) (r.seen new)) front) count rewrites refl len kept.few (ap length (take-append-drop count table) ∙ kept.room))
 rewrite_kept r old new (Err (ByCode code)) table now count gives rewrites carries keeps kept = subst (λ (l : List ℕ). IsKept r new l count) (sym keeps) (same_kept r old new table count gives.1 kept)
 rewrite_kept r old new (Err NoMemory) table now count gives rewrites carries keeps kept = subst (λ (l : List ℕ). IsKept r new l count) (sym keeps) (same_kept r old new table count gives.1 kept)
+
+abbrev with : {S : Type 0} → S → List ℕ → SessionState S
+with store cursors = record { store = store; cursors = cursors }
+
+-- moving the walk's cursor to where a step leads gives the state after that step
+pub stepped : {S T I : Type 0} (r : Rules T I) (state : S → T) (old new : SessionState S) (store : S) (w c next : ℕ) → store ≡ old.store → Some c ≡ slice_get old.cursors w → next ≡ stop_cursor (end_of (r.seen (state store))) (next_live (r.seen (state store)) c) → new ≡ record { store = old.store; cursors = slice_set old.cursors w next } → session_of state new ≡ after {I = I} r (session_of state old) (Step w)
+stepped {S} r state old new store w c next same is_there is moved =
+    ap (session_of state) moved
+    ∙ ap (λ (n : ℕ). with (state old.store) (slice_set old.cursors w n)) is
+    ∙ ap (λ (s : S). with (state old.store) (slice_set old.cursors w (stop_cursor (end_of (r.seen (state s))) (next_live (r.seen (state s)) c)))) same
+    ∙ ap (λ (o : Option ℕ). with (state old.store) (step_cursors (r.seen (state old.store)) old.cursors w o)) is_there
+
+-- if there is no such walk, the state is unchanged
+pub not_stepped : {S T I : Type 0} (r : Rules T I) (state : S → T) (old : SessionState S) (w : ℕ) → None ≡ slice_get old.cursors w → session_of state old ≡ after {I = I} r (session_of state old) (Step w)
+not_stepped r state old w none = ap (λ (o : Option ℕ). with (state old.store) (step_cursors (r.seen (state old.store)) old.cursors w o)) none

@@ -1,9 +1,9 @@
 -- What a walk is given over its track is what is due to it.
-use Rattle.krb_walk.proofs.Cited.{◌≡◌, ℕ, suc, ◌+◌, ◌<◌, Bool, true, false, cond, List, [], ◌∷◌, ◌++◌, length, Option, Some, None, inl, inr, refl, sym, ap, ◌∙◌, subst, arith, ◌&&◌, nat_le, nat_lt, filter_map, append-nil, nat_tests, Store, end_of, is_place, IsSound, next_live, live_at, stop_cursor, Row, RecordName, WalkEvent, Track, PlacesStay, goes_past, last_names, last_cursor, IsWalkEvent, IsTrack, rows_at_event, given_over, turn, row_of, row_at_turn, due_over, rows_between, due_at_event, due_by_steps}
+use Rattle.krb_walk.proofs.Cited.{passes, ◌≡◌, ℕ, suc, ◌+◌, ◌<◌, Bool, true, false, cond, List, [], ◌∷◌, ◌++◌, length, Option, Some, None, inl, inr, refl, sym, ap, ◌∙◌, subst, arith, ◌&&◌, nat_le, nat_lt, filter_map, append-nil, nat_tests, Store, end_of, is_place, IsSound, next_live, live_at, stop_cursor, Row, RecordName, WalkEvent, Track, PlacesStay, goes_past, last_names, last_cursor, IsWalkEvent, IsTrack, rows_at_event, given_over, turn, row_of, row_at_turn, due_over, rows_between, due_at_event, due_by_steps}
 use Rattle.krb_walk.proofs.Cells.{rows_of_next, StepsRows, step_gives, spots, places_spots, same_from}
 use Rattle.krb_walk.proofs.Places.{Extends, extends_on, stop_forward, widths}
 use Rattle.krb_walk.proofs.Effects.{same_extends, changes-extends}
-use Rattle.krb_walk.proofs.WalkEvents.{end_of_step, Advances, effect_of, stays_put}
+use Rattle.krb_walk.proofs.WalkEvents.{find_later, find_first, end_of_step, Advances, effect_of, stays_put}
 
 -- a cursor that does not move passes no place
 past_none : (p : ℕ) (o q : Option ℕ) → ((d : ℕ) → o ≡ Some d → q ≡ Some d) → goes_past p o q ≡ false
@@ -25,23 +25,16 @@ track_extends : (n : ℕ) (s : Store) (names : List RecordName) (c : Option ℕ)
 track_extends n s names c [] last k h = same_extends s last h
 track_extends n s names c (x ∷ xs) last k h = extends_on s x.after last (subst (λ (z : Store). Extends z x.after) h.0.before (changes-extends x.reply x.before x.after k.0 h.0.changes)) (track_extends (suc n) x.after _ x.to xs last k.1 h.1)
 
--- the turn of a place, at the first event or later
-pub turn_later : (p : ℕ) (x : WalkEvent) (xs : Track) → goes_past p x.from x.to ≡ false → turn p (x ∷ xs) ≡ turn p xs
-turn_later p x xs e = ap (λ (b : Bool). cond {A = Option WalkEvent} b (Some x) (turn p xs)) e
-
-pub turn_first : (p : ℕ) (x : WalkEvent) (xs : Track) → goes_past p x.from x.to ≡ true → turn p (x ∷ xs) ≡ Some x
-turn_first p x xs e = ap (λ (b : Bool). cond {A = Option WalkEvent} b (Some x) (turn p xs)) e
-
 -- no place before the cursor has a turn
 pub behind_none : (p n : ℕ) (s : Store) (names : List RecordName) (c : Option ℕ) (t : Track) (last : Store) (d : ℕ) → PlacesStay t → IsTrack n s names c t last → c ≡ Some d → p < d → turn p t ≡ None
 behind_none p n s names c [] last d k h at lt = refl
 behind_none p n s names c (x ∷ xs) last d k h at lt = elim (effect_of x h.0.effect) [
-  | inl holds ↦ turn_later p x xs (past_none p _ _ (λ e. stays_put x e holds k.0)) ∙ behind_none p (suc n) x.after _ x.to xs last d k.1 h.1 (stays_put x d holds k.0 (h.0.from ∙ at)) lt
+  | inl holds ↦ find_later (passes p) x xs (past_none p _ _ (λ e. stays_put x e holds k.0)) ∙ behind_none p (suc n) x.after _ x.to xs last d k.1 h.1 (stays_put x d holds k.0 (h.0.from ∙ at)) lt
   | inr goes ↦ (
       let same : d ≡ goes.at = cc (at, goes.stood, h.0.from) in
       let forward = stop_forward x.before goes.at (h.0.here goes.at goes.stood) in
       let misses : (nat_le goes.at p && nat_lt p (end_of_step x goes.at)) ≡ false = grind (arith, nat_tests) in
-      turn_later p x xs (past_by p _ _ _ _ goes.stood goes.is_there ∙ misses) ∙ behind_none p (suc n) x.after _ x.to xs last (end_of_step x goes.at) k.1 h.1 goes.is_there (omega arith))
+      find_later (passes p) x xs (past_by p _ _ _ _ goes.stood goes.is_there ∙ misses) ∙ behind_none p (suc n) x.after _ x.to xs last (end_of_step x goes.at) k.1 h.1 goes.is_there (omega arith))
 ]
 
 steps_rows : (n : ℕ) (s : Store) (names : List RecordName) (c : Option ℕ) (x : WalkEvent) (xs : Track) (last : Store) → PlacesStay xs → IsTrack n s names c (x ∷ xs) last → (g : Advances x)
@@ -54,14 +47,14 @@ steps_rows n s names c x xs last k h g =
       forward = stop_forward x.before at (h.0.here at g.stood);
       passed = λ p le lt. (
           let yes : (nat_le at p && nat_lt p to) ≡ true = grind (arith, nat_tests) in
-          ap (row_at_turn p) (turn_first p x xs (past_by p at to _ _ g.stood g.is_there ∙ yes)));
+          ap (row_at_turn p) (find_first (passes p) x xs (past_by p at to _ _ g.stood g.is_there ∙ yes)));
       behind = λ p lt. (
           let forward = stop_forward x.before at (h.0.here at g.stood) in
           let misses : (nat_le at p && nat_lt p to) ≡ false = grind (arith, nat_tests) in
-          ap (row_at_turn p) (turn_later p x xs (past_by p at to _ _ g.stood g.is_there ∙ misses) ∙ none p (omega arith)));
+          ap (row_at_turn p) (find_later (passes p) x xs (past_by p at to _ _ g.stood g.is_there ∙ misses) ∙ none p (omega arith)));
       ahead = λ p le. (
           let misses : (nat_le at p && nat_lt p to) ≡ false = grind (arith, nat_tests) in
-          ap (row_at_turn p) (turn_later p x xs (past_by p at to _ _ g.stood g.is_there ∙ misses)));
+          ap (row_at_turn p) (find_later (passes p) x xs (past_by p at to _ _ g.stood g.is_there ∙ misses)));
       none = λ p lt. ap (row_at_turn p) (none p lt);
     }
 
@@ -74,7 +67,7 @@ given_spots n s names c (x ∷ xs) last k h =
     elim (effect_of x h.0.effect) [
       | inl holds ↦ (
           ap (λ (rows : List Row). rows ++ given_over xs) holds.silent ∙ ih
-          ∙ sym (same_from f g last.first (widths last.cells) (λ p _. ap (row_at_turn p) (turn_later p x xs (past_none p _ _ (λ e. stays_put x e holds k.0))))))
+          ∙ sym (same_from f g last.first (widths last.cells) (λ p _. ap (row_at_turn p) (find_later (passes p) x xs (past_none p _ _ (λ e. stays_put x e holds k.0))))))
       | inr goes ↦ (
           let grows = extends_on x.before x.after last (changes-extends x.reply x.before x.after k.0 h.0.changes) (track_extends (suc n) x.after _ x.to xs last k.1 h.1) in
           let same : spots last.first (widths last.cells) ≡ spots x.before.first (widths x.before.cells ++ grows.more) = ap (λ (at : ℕ). spots at (widths last.cells)) grows.first ∙ ap (spots x.before.first) grows.widths_are in

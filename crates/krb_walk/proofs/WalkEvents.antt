@@ -1,7 +1,14 @@
 -- What one event does to a walk's cursor, and what it gives.
-use Rattle.krb_walk.proofs.Cited.{◌≡◌, ℕ, true, false, List, [], Option, Some, inl, inr, refl, sym, ap, ◌∙◌, subst, arith, ◌⊎◌, IsSomeAnd, nat_tests, Store, end_of, next_live, ReplyContent, is_step_reply, completes, is_rewritten, stop_cursor, rows_of_reply, RecordName, WalkEvent, carry_by, AnswersStep, Stays, MovesCursor, IsWalkEvent, rows_at_event, CursorIsSound, CursorMayGo}
+use Rattle.krb_walk.proofs.Cited.{◌≡◌, ℕ, true, false, List, [], Option, Some, inl, inr, refl, sym, ap, ◌∙◌, subst, arith, ◌⊎◌, IsSomeAnd, nat_tests, Store, end_of, next_live, ReplyContent, is_step_reply, is_rewritten, stop_cursor, rows_of_reply, RecordName, WalkEvent, carry_by, AnswersStep, Stays, MovesCursor, IsWalkEvent, rows_at_event, CursorIsSound, CursorMayGo, Bool, cond, find, Track, ◌∷◌}
 use Rattle.krb_walk.proofs.Cells.{rows_of_next}
 use Rattle.krb_walk.proofs.Places.{stop_forward}
+
+-- the first event that passes a test comes after one that fails it
+pub find_later : (f : WalkEvent → Bool) (x : WalkEvent) (xs : Track) → f x ≡ false → find f (x ∷ xs) ≡ find f xs
+find_later f x xs e = ap (λ (b : Bool). cond {A = Option WalkEvent} b (Some x) (find f xs)) e
+
+pub find_first : (f : WalkEvent → Bool) (x : WalkEvent) (xs : Track) → f x ≡ true → find f (x ∷ xs) ≡ Some x
+find_first f x xs e = ap (λ (b : Bool). cond {A = Option WalkEvent} b (Some x) (find f xs)) e
 
 -- the place that a step from a place leads to
 abbrev pub end_of_step : WalkEvent → ℕ → ℕ
@@ -34,13 +41,6 @@ answered s w c content to a = search arith
 
 pub effect_of : (x : WalkEvent) → Stays x ⊎ MovesCursor x → Holds x ⊎ Advances x
 effect_of x effect = grind (arith, nat_tests)
-
--- after a reply that no record is left, the walk's cursor is at the end
-pub ends_of : (x : WalkEvent) → Stays x ⊎ MovesCursor x → completes x.walk x.reply ≡ true → x.to ≡ Some (end_of x.before)
-ends_of x effect content = grind (arith, nat_tests)
-
-pub completes_stepped : (x : WalkEvent) → Stays x ⊎ MovesCursor x → completes x.walk x.reply ≡ true → x.stepped ≡ true
-completes_stepped x effect content = grind (arith, nat_tests)
 
 -- without an accepted rewrite, a cursor is not carried
 pub carry_by-same : (content : ReplyContent) (old new : Store) (c : ℕ) → is_rewritten content ≡ false → carry_by content old new c ≡ c

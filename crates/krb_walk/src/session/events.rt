@@ -83,6 +83,7 @@ impl<P: Placed, A: Allocator + Copy> Session<P, A> {
         Reply::Started { walk, next: place }
     }
 
+    #[tactic(auto, using(crate::proofs::Places::place_first))]
     fn start(&mut self) -> Reply<A>
         ensures reply { content_of result ≡ reply_to P.rules (session_of P.state_of self.old) Start }
         ensures state { session_of P.state_of self.new ≡ after P.rules (session_of P.state_of self.old) Start }

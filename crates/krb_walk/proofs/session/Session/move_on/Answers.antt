@@ -1,5 +1,5 @@
 use Rattle.krb_walk.proofs.Cited.{ap, SessionState}
-use Rattle.krb_walk.proofs.Moves.{stepped, not_stepped}
+use Rattle.krb_walk.proofs.Table.{stepped, not_stepped}
 use Rattle.krb_walk.proofs.session.Session.move_on.Goals as goal
 
 pub returns-in_default-clause-state : goal.returns-in_default-clause-state
