@@ -1,7 +1,7 @@
 -- The cache that an image holds is readable, and the image of a readable cache holds it.
-use Rattle.krb_ccache.proofs.Cited.{◌≡◌, ℕ, ◌+◌, ◌≤◌, List, [], ◌∷◌, ◌++◌, length, drop, Option, Some, refl, sym, ap, subst, ◌∙◌, length-append, arith, flat_map, AllByRecursion, append-nil, drop_at, drop-drop, length-drop, w16, Big, digits, data16, cc_principal, IsShort, FitsCc, data16_at, cc_principal_at, IsBytes, IsBytes-drop, bind_some, some_is, Takes, data16_field, cc_principal_field, More, contents, spelling, next_by, IsCell, IsEnd, end_of, contents_again, Version, V3, V4, Layout, CredParts, credential, credential_at, FitsCredential, Field, header, header_at, fields_in, CacheState, credentials_format, image_of, store_of, first_place, header_in, principal_in, IsImage, cache_of, Holds, Places, IsBytes-front, IsBytes-back}
+use Rattle.krb_ccache.proofs.Cited.{◌≡◌, ℕ, ◌+◌, ◌≤◌, List, [], ◌∷◌, ◌++◌, length, drop, Option, Some, refl, sym, ap, subst, ◌∙◌, length-append, arith, flat_map, AllByRecursion, append-nil, drop_at, drop-drop, length-drop, cc_principal, FitsCc, cc_principal_at, IsBytes, IsBytes-drop, Takes, cc_principal_field, More, contents, spelling, next_by, IsCell, IsEnd, end_of, contents_again, Version, Layout, CredParts, credential, credential_at, FitsCredential, header, header_at, CacheState, credentials_format, image_of, store_of, first_place, header_in, principal_in, IsImage, cache_of, Holds, Places, IsBytes-front, IsBytes-back}
 use Rattle.krb_ccache.proofs.CredentialField.{credential_field}
-use Rattle.krb_ccache.proofs.HeaderFields.{fields_spell, header_takes}
+use Rattle.krb_ccache.proofs.HeaderFields.{header_parts, header_takes}
 use Rattle.krb_ccache.proofs.CellLemmas.{credentials_are, end_is, all_cells}
 use Rattle.krb_ccache.proofs.PlaceLemmas.{header_is, name_is}
 use Rattle.krb_ccache.proofs.ImageLemmas.{image_parts, end_held}
@@ -16,24 +16,6 @@ pub record IsReadable (k : CacheState) : Type 0 where
   pub limit_fits : k.limit ≤ 1073741824
 
 -- ---- what is held is kept
-
--- fields that fill a header are read back, whatever follows
-header_by : (text : List ℕ) (xs : List Field) (rest : List ℕ) → IsShort text → fields_in text ≡ Some xs → header_at V4 (data16 Big text ++ rest) ≡ Some (xs, rest)
-unfolding header_at
-header_by text xs rest short filled = rw ((data16_field Big).again text rest short, filled) refl
-
--- a header that was read is read back, whatever follows
-header_front : (v : Version) (bytes : List ℕ) (x : List Field × List ℕ) (rest : List ℕ) → IsBytes bytes → header_at v bytes ≡ Some x → header_at v (header v x.0 ++ rest) ≡ Some (x.0, rest)
-unfolding header_at
-header_front V3 bytes x rest fits e = subst (λ (y : List Field × List ℕ). header_at V3 rest ≡ Some (y.0, rest)) (some_is ([], bytes) x e) refl
-header_front V4 bytes x rest fits e =
-    let a = bind_some (data16_at Big bytes) _ x e in
-    let b = bind_some (fields_in a.0.0) _ x a.2 in
-    let t = (data16_field Big).takes bytes a.0 fits a.1 in
-    let inner : IsBytes a.0.0 = IsBytes-back (digits Big w16 (length a.0.0)) a.0.0 (IsBytes-front (data16 Big a.0.0) a.0.1 (subst IsBytes t.0.parts fits)) in
-    let same = fields_spell a.0.0 b.0 inner b.1 in
-    let P : List Field × List ℕ → Type 0 = λ y. header_at V4 (header V4 y.0 ++ rest) ≡ Some (y.0, rest) in
-    subst P (some_is (b.0, a.0.1) x b.2) (subst (λ (text : List ℕ). header_at V4 (data16 Big text ++ rest) ≡ Some (b.0, rest)) same (header_by a.0.0 b.0 rest t.1 b.1))
 
 pub cell_by : {A : Type 0} (bytes : List ℕ) (o : Option (A × List ℕ)) (c : A) (rest : List ℕ) → next_by bytes o ≡ More c rest → o ≡ Some (c, rest)
 cell_by bytes o c rest e = search arith
@@ -55,7 +37,7 @@ image_readable h image fits is =
     let cells = (contents (credentials_format v) bytes).cells in
     let spelled : IsBytes (flat_map (credential v) cells) = IsBytes-front (flat_map (credential v) cells) _ (subst IsBytes k.spelled.parts (IsBytes-drop h.places.first image fits)) in
     record {
-      header = λ rest. header_front v (drop 2 image) (header_in v image, drop h.places.principal image) rest (IsBytes-drop 2 image fits) is.parts.header;
+      header = (header_parts v (drop 2 image) (header_in v image, drop h.places.principal image) (IsBytes-drop 2 image fits) is.parts.header).1;
       principal = (cc_principal_field.takes (drop h.places.principal image) (principal_in (drop h.places.principal image), bytes) (IsBytes-drop h.places.principal image fits) is.parts.principal).1;
       cells = all_fit v cells k.spelled.sound.cells spelled;
       end = k.spelled.sound.end;

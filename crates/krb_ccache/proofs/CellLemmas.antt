@@ -1,5 +1,5 @@
 -- The credentials that bytes begin with, one after the other.
-use Rattle.krb_ccache.proofs.Cited.{◌++◌, take, drop, Option, ◌≡◌, ℕ, ◌+◌, List, [], ◌∷◌, length, map, ap, ◌∙◌, length-append, arith, ◌-◌, ◌^◌, ◌<◌, ◌≤◌, Some, None, refl, flat_map, AllByRecursion, take_at, drop_at, flat_map-cons, Big, data32, cc_principal, IsBytes, wide32, contents, IsCell, end_from, ReadsOne, reads_one, reads_none, IsFormat, unframed_cell, unframed_format, seen_in, Version, CredParts, number32, credential, credential_at, is_marked, FitsCredential, credentials_format, store_cell, live_by, CredentialsFrom, BeginsWithCredential}
+use Rattle.krb_ccache.proofs.Cited.{take, drop, Option, ◌≡◌, ℕ, ◌+◌, List, [], ◌∷◌, length, map, ap, ◌∙◌, length-append, arith, ◌-◌, ◌^◌, ◌<◌, ◌≤◌, Some, None, flat_map, AllByRecursion, take_at, drop_at, flat_map-cons, IsBytes, wide32, contents, IsCell, end_from, ReadsOne, reads_one, reads_none, IsFormat, unframed_cell, unframed_format, seen_in, Version, CredParts, credential, credential_at, is_marked, FitsCredential, credentials_format, store_cell, live_by, CredentialsFrom, BeginsWithCredential}
 use Rattle.krb_cells.proofs.Formats.{IsSeen}
 use Rattle.krb_ccache.proofs.CredentialField.{credential_field}
 
@@ -7,12 +7,7 @@ pub credentials_are : (v : Version) → IsFormat (credentials_format v)
 credentials_are v = unframed_format (credential_field v)
 
 pub credentials_seen : (v : Version) → IsSeen (credentials_format v) (store_cell v)
-credentials_seen v = record {
-  format = credentials_are v;
-  wide = λ c. refl;
-  four = λ c. omega (arith, length-append (number32 c.client.name_type) (number32 (length c.client.components) ++ (data32 Big c.client.realm ++ flat_map (data32 Big) c.client.components)), (wide32 Big).len c.client.name_type, length-append (cc_principal c.client) (drop (length (cc_principal c.client)) (credential v c)));
-  none = refl;
-}
+credentials_seen v = search (arith, credentials_are, wide32)
 
 -- credentials that begin at a place end at that place plus the length of their spelling
 pub end_is : (v : Version) (at : ℕ) (cs : List CredParts) → end_from at (map (store_cell v) cs) ≡ at + length (flat_map (credential v) cs)
@@ -46,8 +41,7 @@ cell_first v bytes c after live fits e is_live =
 -- a credential that was read is the first of those that the bytes begin with
 pub begins : (v : Version) (place : ℕ) (bytes : List ℕ) (c : CredParts) (after : List ℕ) (old : CredentialsFrom) → ReadsOne (credentials_format v) bytes c after → place + length bytes ≤ 2 ^ 30
     → ◌≡◌ {A = CredentialsFrom} (record { version = v; place = place; cells = (contents (credentials_format v) bytes).cells }) old → BeginsWithCredential old place c (record { version = v; place = place + (length bytes - length after); cells = (contents (credentials_format v) after).cells })
-begins v place bytes c after old r small is =
-    rw (← is) (record { place = refl; cells = r.cells; next = omega (arith, r.len); version = refl; small = omega (arith, r.len, small) })
+begins v place bytes c after old r small is = search (arith)
 
 -- one credential fewer is left
 pub fewer_left : (old new : CredentialsFrom) (at : ℕ) (c : CredParts) → BeginsWithCredential old at c new → length new.cells < length old.cells

@@ -1,5 +1,5 @@
 -- After a value is set, exactly one live entry matches.
-use Rattle.krb_ccache.proofs.Cited.{◌≡◌, ℕ, ◌+◌, ◌≤◌, Bool, true, false, List, [], ◌∷◌, ◌++◌, length, map, Option, Some, Result, Ok, refl, sym, ap, subst, ◌∙◌, arith, nat_tests, Parts, Code, end_from, end_of, Version, V4, CredParts, credential, is_marked, CacheState, PlacedCredential, store_of, store_cell, first_place, placed_from, is_live, live_of, credential_at_place, QueryParts, is_match, query_of, add_mark_at, with_mark, cut_result, put_result, with_last, without, config_entry, matches_of, HoldsConfig, filter, find, not, ◌==◌, ◌&&◌, cut_store, ok_is}
+use Rattle.krb_ccache.proofs.Cited.{◌≡◌, ℕ, ◌+◌, ◌≤◌, Bool, true, false, List, [], ◌∷◌, ◌++◌, length, map, Option, Some, Result, Ok, refl, sym, ap, subst, ◌∙◌, arith, nat_tests, Parts, Code, end_from, end_of, Version, V4, CredParts, credential, is_marked, CacheState, PlacedCredential, store_of, store_cell, first_place, placed_from, is_live, live_of, credential_at_place, QueryParts, is_match, query_of, add_mark_at, with_mark, cut_result, put_result, with_last, without, config_entry, matches_of, HoldsConfig, filter, find, ◌==◌, cut_store, ok_is}
 use Rattle.std.specs.Str.{bytes_eq}
 use Rattle.std.proofs.lemmas.List.Elements.{filter-append}
 use Rattle.std.proofs.lemmas.Slice.Eq.{bytes_eq-Decides}
@@ -15,10 +15,6 @@ same_bytes b = (bytes_eq-Decides b b).1 refl
 name_same : (p : Parts) → have_same_name p p ≡ true
 name_same p = sym (same_name_is p p true (λ e. (refl, refl)) (λ realm components. refl))
 
--- the entry of a value matches
-match_by : (owner : Parts) (key : List ℕ) (text : Option (List ℕ)) (value : List ℕ) → is_match (record { owner = owner; key = key; principal = text }) (config_entry owner key text value) ≡ true
-match_by owner key text value = search (arith, same_bytes, name_same)
-
 -- the live credentials that match, with their places
 abbrev matches_from : Version → QueryParts → ℕ → List CredParts → List PlacedCredential
 matches_from v q at cs = filter (λ x. is_match q x.1) (filter is_live (placed_from v at cs))
@@ -26,13 +22,6 @@ matches_from v q at cs = filter (λ x. is_match q x.1) (filter is_live (placed_f
 -- the matches in a cache
 abbrev matches_in : QueryParts → CacheState → List PlacedCredential
 matches_in q k = matches_from k.version q (first_place k) k.contents.cells
-
-taken : (v : Version) (q : QueryParts) (at : ℕ) (c : CredParts) (cs : List CredParts) → is_marked c ≡ false → is_match q c ≡ true → matches_from v q at (c ∷ cs) ≡ (at, c) ∷ matches_from v q (at + length (credential v c)) cs
-taken v q at c cs live matches = search arith
-
-passed : (v : Version) (q : QueryParts) (at : ℕ) (c : CredParts) (cs : List CredParts) (marked matched : Bool) → is_marked c ≡ marked → is_match q c ≡ matched → (not marked && matched) ≡ false
-    → matches_from v q at (c ∷ cs) ≡ matches_from v q (at + length (credential v c)) cs
-passed v q at c cs marked matched m e none = search arith
 
 -- ---- the first of them
 
@@ -62,14 +51,14 @@ first_after v q at p c d cs rest skips first =
 first_by : (v : Version) (q : QueryParts) (at p : ℕ) (c d : CredParts) (cs : List CredParts) (rest : List PlacedCredential) (marked matched : Bool) → is_marked d ≡ marked → is_match q d ≡ matched
     → (matches_from v q (at + length (credential v d)) cs ≡ (p, c) ∷ rest → IsFirst v q (at + length (credential v d)) cs p c rest) → matches_from v q at (d ∷ cs) ≡ (p, c) ∷ rest → IsFirst v q at (d ∷ cs) p c rest
 first_by v q at p c d cs rest false true m e ih is =
-    let both : (at, d) ∷ matches_from v q (at + length (credential v d)) cs ≡ (p, c) ∷ rest = sym (taken v q at d cs m e) ∙ is in
+    let both : (at, d) ∷ matches_from v q (at + length (credential v d)) cs ≡ (p, c) ∷ rest = sym (search arith) ∙ is in
     let first : ◌≡◌ {A = PlacedCredential} (at, d) (p, c) = cc in
     let others : matches_from v q (at + length (credential v d)) cs ≡ rest = cc in
     subst (λ (x : CredParts). IsFirst v q at (d ∷ cs) p x rest) (ap (λ (x : PlacedCredential). x.1) first) (first_here v q at p d cs rest (ap (λ (x : PlacedCredential). x.0) first) m others)
 first_by v q at p c d cs rest true matched m e ih is =
-    first_after v q at p c d cs rest (λ xs. passed v q at d xs true matched m e refl) (ih (sym (passed v q at d cs true matched m e refl) ∙ is))
+    first_after v q at p c d cs rest (λ xs. search arith) (ih (sym (search arith) ∙ is))
 first_by v q at p c d cs rest false false m e ih is =
-    first_after v q at p c d cs rest (λ xs. passed v q at d xs false false m e refl) (ih (sym (passed v q at d cs false false m e refl) ∙ is))
+    first_after v q at p c d cs rest (λ xs. search arith) (ih (sym (search arith) ∙ is))
 
 first_is : (v : Version) (q : QueryParts) (at p : ℕ) (c : CredParts) (cs : List CredParts) (rest : List PlacedCredential) → matches_from v q at cs ≡ (p, c) ∷ rest → IsFirst v q at cs p c rest
 first_is v q at p c [] rest is = absurd cc
@@ -113,14 +102,11 @@ pub record IsSet (k new : CacheState) (key : List ℕ) (text : Option (List ℕ)
   pub holds : HoldsConfig new key text value place
   pub there : credential_at_place new place ≡ Some (config_entry k.principal key text value)
 
-set_by : (k new : CacheState) (key : List ℕ) (text : Option (List ℕ)) (value : List ℕ) (p : ℕ) → new.principal ≡ k.principal → matches_in (query_of k key text) new ≡ (p, config_entry k.principal key text value) ∷ [] → IsSet k new key text value p
-set_by k new key text value p owner all = search (arith, only_first, first_is)
-
 pub is_set : (k mid : CacheState) (key : List ℕ) (text : Option (List ℕ)) (value : List ℕ) (p : ℕ) → k.version ≡ V4 → k.contents.end ≡ [] → put_result k (config_entry k.principal key text value) ≡ Ok (end_of (store_of k), with_last k (config_entry k.principal key text value))
     → put_result k (config_entry k.principal key text value) ≡ Ok (p, mid) → IsSet k (without mid (map (λ x. x.0) (matches_of k key text))) key text value p
 is_set k mid key text value p version whole fits put =
     let q = query_of k key text in
     let x = config_entry k.principal key text value in
     let xs = matches_of k key text in
-    let all = cut_matches q (with_last k x) xs ((end_of (store_of k), x) ∷ []) version whole (match_last q k x refl (match_by k.principal key text value)) in
-    subst (λ (y : ℕ × CacheState). IsSet k (without y.1 (map (λ z. z.0) xs)) key text value y.0) (ok_is _ _ (sym fits ∙ put)) (set_by k (without (with_last k x) (map (λ z. z.0) xs)) key text value (end_of (store_of k)) all.1 all.0)
+    let all = cut_matches q (with_last k x) xs ((end_of (store_of k), x) ∷ []) version whole (match_last q k x refl (search (arith, same_bytes, name_same))) in
+    subst (λ (y : ℕ × CacheState). IsSet k (without y.1 (map (λ z. z.0) xs)) key text value y.0) (ok_is _ _ (sym fits ∙ put)) (search (arith, only_first, first_is))

@@ -57,9 +57,7 @@ typed_list_takes bytes x fits e =
 
 typed_list_again : (xs : List TypedData) (rest : List ℕ) → FitsTypedList xs → typed_list_at (typed_list xs ++ rest) ≡ Some (xs, rest)
 unfolding typed_list_at
-typed_list_again xs rest fits =
-    ap typed_list_at (append_assoc (number32 (length xs)) (flat_map typed_data xs) rest)
-    ∙ rw (field32.again (length xs) (flat_map typed_data xs ++ rest) fits.count) (list_again typed_field xs rest fits.each)
+typed_list_again xs rest fits = search (arith, append_assoc, field32, list_again, typed_field)
 
 pub typed_list_field : IsField typed_list_at typed_list FitsTypedList
 typed_list_field = search (arith, typed_list_takes, typed_list_again, some_more, field32)
@@ -106,9 +104,7 @@ times_takes bytes x fits e =
 
 times_again : (t : Times) (rest : List ℕ) → FitsTimes t → times_at (times t ++ rest) ≡ Some (t, rest)
 unfolding times_at
-times_again t rest fits =
-    let split : times t ++ rest ≡ number32 t.authtime ++ (number32 t.starttime ++ (number32 t.endtime ++ (number32 t.renew_till ++ rest))) = simp append_assoc in
-    ap times_at split ∙ rw (field32.again t.authtime _ fits.authtime, field32.again t.starttime _ fits.starttime, field32.again t.endtime _ fits.endtime, field32.again t.renew_till rest fits.renew_till) refl
+times_again t rest fits = search (arith, append_assoc, field32)
 
 pub times_field : IsField times_at times FitsTimes
 times_field = search (arith, times_takes, times_again, some_more, field32)

@@ -1,5 +1,5 @@
--- A header is spelled by the bytes that it is read from.
-use Rattle.krb_ccache.proofs.Cited.{nat_tests, ◌≡◌, ℕ, ◌<◌, List, [], ◌++◌, length, Some, refl, ap, subst, ◌∙◌, append_assoc, arith, Option, None, is_some, ◌==◌, flat_map, filter_map, cons_option, append-nil, w16, Big, digits, data16, data16_at, IsBytes, bind_some, some_is, Takes, Takes-then, IsField, data16_field, Contents, contents, IsFormat, contents_spelled, unframed_format, reads_one, reads_none, Version, V3, V4, Offset, Field, field, FitsField, header, field_at, fields_format, only_cells, fields_in, header_at, offset_of, first_of, IsBytes-front, IsBytes-back}
+-- A header is spelled by the bytes that it is read from, and is read back.
+use Rattle.krb_ccache.proofs.Cited.{nat_tests, ◌≡◌, ℕ, ◌<◌, List, [], ◌++◌, length, Some, refl, ap, subst, ◌∙◌, append_assoc, arith, Option, None, is_some, ◌==◌, flat_map, filter_map, cons_option, append-nil, w16, Big, digits, data16, data16_at, IsBytes, bind_some, some_is, Takes, Takes-then, IsField, data16_field, Contents, contents, IsFormat, contents_spelled, unframed_format, reads_one, reads_none, Version, V3, V4, Offset, Field, field, FitsField, header, field_at, fields_format, only_cells, fields_in, header_at, IsShort, offset_of, first_of, IsBytes-front, IsBytes-back}
 use Rattle.krb_ccache.proofs.Fields.{field16, some_more, step}
 
 field_takes : (bytes : List ℕ) (x : Field × List ℕ) → IsBytes bytes → field_at bytes ≡ Some x → Takes bytes (field x.0) x.1 × FitsField x.0
@@ -29,17 +29,27 @@ fields_spell bytes xs fits e =
     let k = contents fields_format bytes in
     whole_by bytes k.cells k.end xs (contents_spelled fields_format bytes fields_are fits).parts e
 
--- a header spells the bytes that it is read from
-pub header_takes : (v : Version) (bytes : List ℕ) (x : List Field × List ℕ) → IsBytes bytes → header_at v bytes ≡ Some x → Takes bytes (header v x.0) x.1
+-- fields that fill a header are read back, whatever follows
+header_by : (text : List ℕ) (xs : List Field) (rest : List ℕ) → IsShort text → fields_in text ≡ Some xs → header_at V4 (data16 Big text ++ rest) ≡ Some (xs, rest)
 unfolding header_at
-header_takes V3 bytes x fits e = subst (λ (y : List Field × List ℕ). Takes bytes [] y.1) (some_is ([], bytes) x e) (record { parts = refl; rest_fits = fits })
-header_takes V4 bytes x fits e =
+header_by text xs rest short filled = rw ((data16_field Big).again text rest short, filled) refl
+
+-- a header spells the bytes that it is read from, and is read back, whatever follows
+pub header_parts : (v : Version) (bytes : List ℕ) (x : List Field × List ℕ) → IsBytes bytes → header_at v bytes ≡ Some x → Takes bytes (header v x.0) x.1 × ((rest : List ℕ) → header_at v (header v x.0 ++ rest) ≡ Some (x.0, rest))
+unfolding header_at
+header_parts V3 bytes x fits e = rw (← some_is ([], bytes) x e) (record { parts = refl; rest_fits = fits }, λ rest. refl)
+header_parts V4 bytes x fits e =
     let a = bind_some (data16_at Big bytes) _ x e in
     let b = bind_some (fields_in a.0.0) _ x a.2 in
     let ta = (data16_field Big).takes bytes a.0 fits a.1 in
     let inner : IsBytes a.0.0 = IsBytes-back (digits Big w16 (length a.0.0)) a.0.0 (IsBytes-front (data16 Big a.0.0) a.0.1 (subst IsBytes ta.0.parts fits)) in
     let same = fields_spell a.0.0 b.0 inner b.1 in
-    subst (λ (y : List Field × List ℕ). Takes bytes (header V4 y.0) y.1) (some_is (b.0, a.0.1) x b.2) (subst (λ (t : List ℕ). Takes bytes (data16 Big t) a.0.1) same ta.0)
+    let P : List Field × List ℕ → Type 0 = λ y. Takes bytes (header V4 y.0) y.1 × ((rest : List ℕ) → header_at V4 (header V4 y.0 ++ rest) ≡ Some (y.0, rest)) in
+    let Q : List ℕ → Type 0 = λ t. Takes bytes (data16 Big t) a.0.1 × ((rest : List ℕ) → header_at V4 (data16 Big t ++ rest) ≡ Some (b.0, rest)) in
+    subst P (some_is (b.0, a.0.1) x b.2) (subst Q same (ta.0, λ rest. header_by a.0.0 b.0 rest ta.1 b.1))
+
+pub header_takes : (v : Version) (bytes : List ℕ) (x : List Field × List ℕ) → IsBytes bytes → header_at v bytes ≡ Some x → Takes bytes (header v x.0) x.1
+header_takes v bytes x fits e = (header_parts v bytes x fits e).0
 
 -- ---- one field after the other
 

@@ -73,12 +73,8 @@ append_full h k c a long = search (arith, lt-ltb, last_len)
 pub append_fits : (h : Layout) (k : CacheState) (c : CredParts) → IsAppendable h k → h.places.end + length (credential V4 c) ≤ h.limit → append_result k c ≡ Ok (end_of (store_of k), with_last k c)
 append_fits h k c a short = search (arith, le-ltb, last_len)
 
--- the place and the cache of an addition that was not refused
-pub append_pair : (k new : CacheState) (c : CredParts) (p : ℕ) → append_result k c ≡ Ok (p, new) → ◌≡◌ {A = ℕ × CacheState} (end_of (store_of k), with_last k c) (p, new)
-append_pair k new c p is = search (arith, ok_is)
-
 pub append_puts : (k new : CacheState) (c : CredParts) (result : Result ℕ Refusal) → PutGives (append_result k c) k result new → Puts (store_of k) (store_of (with_last k c)) (end_of (store_of k)) → IfOk result (Puts (store_of k) (store_of new))
-append_puts k new c result gives puts = search (arith, append_pair)
+append_puts k new c result gives puts = search (arith, ok_is)
 
 -- ---- where it is
 
@@ -91,4 +87,4 @@ last_there k c live = rw (found_last k.version (first_place k) (end_of (store_of
 
 -- an added credential is at the place that was returned
 pub put_there : (k old new : CacheState) (c : CredParts) (result : Result ℕ Refusal) → is_marked c ≡ false → PutGives (append_result k c) old result new → IfOk result (λ p. credential_at_place new p ≡ Some c)
-put_there k old new c result live gives = search (arith, append_pair, last_there)
+put_there k old new c result live gives = search (arith, ok_is, last_there)

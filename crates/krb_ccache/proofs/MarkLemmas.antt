@@ -77,9 +77,6 @@ around v image place c rest fits le e =
       whole = whole ∙ ap (λ (x : List ℕ). take place image ++ x) t.0.parts;
     }
 
-group_three : (a f s t : List ℕ) → a ++ (f ++ (s ++ t)) ≡ ((a ++ f) ++ s) ++ t
-group_three a f s t = simp append_assoc
-
 group_back : (p f a s e r b rest : List ℕ) → ((p ++ f) ++ a) ++ s ++ (e ++ (r ++ (b ++ rest))) ≡ p ++ ((f ++ (a ++ (s ++ (e ++ (r ++ b))))) ++ rest)
 group_back p f a s e r b rest = simp append_assoc
 
@@ -94,7 +91,7 @@ marked_is v image mid new place at i j k c rest w le is_at is_i is_j is_k first 
     let others = number32 c.times.renew_till ++ (after_times c ++ rest) in
     let ff = number32 4294967295 in
     let len : length x ≡ at = omega (arith, length-take place image, le, length-append p (before_times v c), is_at) in
-    let mid_is : mid ≡ ((x ++ ff) ++ s) ++ (e ++ others) = first ∙ ap (λ (b : List ℕ). splice b at i ff) w.parts ∙ splice_part x (number32 c.times.authtime) ff (s ++ (e ++ others)) at i (sym len) is_i ∙ group_three x ff s (e ++ others) in
+    let mid_is : mid ≡ ((x ++ ff) ++ s) ++ (e ++ others) = first ∙ ap (λ (b : List ℕ). splice b at i ff) w.parts ∙ splice_part x (number32 c.times.authtime) ff (s ++ (e ++ others)) at i (sym len) is_i ∙ (simp append_assoc) in
     let new_is : new ≡ ((x ++ ff) ++ s) ++ (number32 0 ++ others) = second ∙ ap (λ (b : List ℕ). splice b j k (number32 0)) mid_is ∙ splice_part ((x ++ ff) ++ s) e (number32 0) others j k (omega (arith, is_j, len, length-append (x ++ ff) s, length-append x ff)) is_k in
     let put : splice image place (place + length (credential v c)) (credential v (add_mark c)) ≡ p ++ (credential v (add_mark c) ++ rest) =
     ap (λ (b : List ℕ). splice b place (place + length (credential v c)) (credential v (add_mark c))) w.whole ∙ splice_part p (credential v c) (credential v (add_mark c)) rest place (place + length (credential v c)) (omega (arith, length-take place image, le)) refl in

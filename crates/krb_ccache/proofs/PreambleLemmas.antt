@@ -1,5 +1,5 @@
 -- What is written before the credentials of a new cache.
-use Rattle.krb_ccache.proofs.Cited.{◌≡◌, ℕ, ◌+◌, ◌≤◌, false, Ok, List, [], ◌∷◌, ◌++◌, length, Some, Option, refl, sym, ap, subst, ◌∙◌, length-append, arith, nat_lt, le-ltb, w16, w32, cast_unsigned, append-nil, Big, Parts, digits, cc_principal, FitsCc, IsBytes, next_by, V4, Offset, CredParts, number32, header, header_at, FitsHeader, image_of, first_place, new_header, new_preamble, empty_cache, create_result, Holds, IsBytes-front, IsBytes-back}
+use Rattle.krb_ccache.proofs.Cited.{◌≡◌, ℕ, ◌+◌, ◌≤◌, false, Ok, List, [], ◌∷◌, ◌++◌, length, Some, Option, refl, sym, ap, subst, ◌∙◌, length-append, arith, nat_lt, le-ltb, w16, w32, cast_unsigned, append-nil, Big, Parts, digits, cc_principal, FitsCc, IsBytes, next_by, V4, Offset, CredParts, number32, header, header_at, image_of, first_place, new_header, new_preamble, empty_cache, create_result, Holds, IsBytes-front, IsBytes-back}
 use Rattle.krb_ccache.proofs.Reopening.{header_again}
 use Rattle.krb_ccache.proofs.CacheLemmas.{IsReadable, holds}
 use Rattle.krb_ccache.proofs.Splits.{no_credential}
@@ -9,12 +9,8 @@ pub offset_text : (offset : Option Offset) (o : Offset) (s m : ℕ) → offset �
     → digits Big w16 12 ++ (digits Big w16 1 ++ (digits Big w16 8 ++ (number32 s ++ number32 m))) ≡ header V4 (new_header offset)
 offset_text offset o s m is is_s is_m = rw (is, is_s, is_m) refl
 
--- the fields of a new header fit, so it is read back, whatever follows
-fits_new : (offset : Option Offset) → FitsHeader V4 (new_header offset)
-fits_new offset = search arith
-
 pub header_read : (offset : Option Offset) (rest : List ℕ) → IsBytes (header V4 (new_header offset)) → header_at V4 (header V4 (new_header offset) ++ rest) ≡ Some (new_header offset, rest)
-header_read offset rest fits = header_again V4 (new_header offset) rest (fits_new offset) fits
+header_read offset rest fits = header_again V4 (new_header offset) rest (search arith) fits
 
 -- ---- a new cache
 

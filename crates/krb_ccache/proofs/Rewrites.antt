@@ -16,12 +16,9 @@ use Rattle.krb_walk.specs.declared.refusal.Code.TheVariants as code
 pub image_is : (k : CacheState) → image_of (rewrite_of k) ≡ new_preamble k.principal (offset_in k.header) ++ flat_map new_text k.contents.cells
 image_is k = search (arith, append-nil, append_assoc, flat_new_texts)
 
-fits_version_4 : (v : Version) (c : CredParts) → FitsCredential v c → FitsCredential V4 (in_version_4 c)
-fits_version_4 v c fit = search arith
-
 all_version_4 : (v : Version) (cs : List CredParts) → AllByRecursion (FitsCredential v) cs → AllByRecursion (FitsCredential V4) (new_cells cs)
 all_version_4 v [] all = tt
-all_version_4 v (c ∷ cs) all = search (arith, fits_version_4, all_version_4 v cs all.1)
+all_version_4 v (c ∷ cs) all = search (arith, all_version_4 v cs all.1)
 
 pub rewrite_held : (k : CacheState) (image : List ℕ) (limit principal first end : ℕ) → IsReadable k → IsBytes image → image ≡ image_of (rewrite_of k) → limit ≡ k.limit → length (image_of (rewrite_of k)) ≤ limit
     → principal ≡ 2 + length (header V4 (new_header (offset_in k.header))) → first ≡ length (new_preamble k.principal (offset_in k.header)) → end ≡ length (image_of (rewrite_of k))
@@ -80,12 +77,9 @@ live_version_4 : (cs : List CredParts) → live (new_cells cs) ≡ new_cells cs
 live_version_4 [] = refl
 live_version_4 (c ∷ cs) = search (arith, live_version_4 cs)
 
-credentials_kept : (k : CacheState) → live_credentials (rewrite_of k) ≡ map in_version_4 (live_credentials k)
-credentials_kept k = search (arith, unplaced_live, live_version_4)
-
 -- the rewritten cache has the same live credentials, as version 4 has them
 pub rewritten_keeps : (k new : CacheState) → rewrite_result k ≡ Ok new → live_credentials new ≡ map in_version_4 (live_credentials k)
-rewritten_keeps k new made = search (arith, credentials_kept)
+rewritten_keeps k new made = search (arith, unplaced_live, live_version_4)
 
 -- ---- the image of a rewrite
 

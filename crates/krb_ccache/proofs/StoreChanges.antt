@@ -5,12 +5,9 @@ use Rattle.krb_ccache.proofs.CredentialField.{credential_field}
 use Rattle.krb_ccache.proofs.MarkLemmas.{IsAt, found_at, marked_one, marked_len}
 use Rattle.krb_ccache.proofs.Splits.{live_is}
 
-none_left : (end : List ℕ) → fault_kind end ≡ None → end ≡ []
-none_left end h = search arith
-
 -- nothing follows the credentials of a cache without a fault
 pub end_by : (k : CacheState) → is_some (fault_of (store_of k)) ≡ false → k.contents.end ≡ []
-end_by k h = search (arith, none_left, whole_of)
+end_by k h = search (arith, whole_of)
 
 pub version_by : (v : Version) → is_read_only v ≡ false → v ≡ V4
 version_by v h = search arith

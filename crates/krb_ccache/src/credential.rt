@@ -72,9 +72,7 @@ impl<A: Allocator> Cred<A> {
             renew_till: self.renew_till,
         }
     }
-}
 
-impl<A: Allocator> Cred<A> {
     /// Returns whether it has the removed mark: endtime 0 and the greatest authtime.
     pub fn is_marked(&self) -> bool
         ensures { result ≡ is_marked self.now }

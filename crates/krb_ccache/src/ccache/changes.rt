@@ -94,6 +94,7 @@ impl<A: Allocator> Ccache<A> {
     /// Marks the credential at `place` as removed: writes endtime 0 and the greatest authtime, and no other byte. The
     /// mark is this project's own. Refuses, in this order, a version 3 cache, a damaged one, and a place where no live
     /// credential starts.
+    #[tactic(auto, using(crate::proofs::StoreChanges::live_there, crate::proofs::StoreChanges::mark_cuts, crate::proofs::StoreChanges::mark_gone))]
     pub fn remove_at(&mut self, place: u32) -> Result<(), Code>
         ensures gives { CutGives (cut_result self.old.state place) self.old.state result self.new.state }
         ensures cuts { OnOk result (Cuts (store_of self.old.state) (store_of self.new.state) place) }

@@ -108,6 +108,7 @@ impl<'a> CacheView<'a> {
     }
 
     /// Returns the time offset in the header, if there is one.
+    #[tactic(auto, using(crate::proofs::ImageLemmas::offset_is))]
     pub fn offset(&self) -> Option<Offset>
         ensures { result ≡ offset_in self.now.header }
     {

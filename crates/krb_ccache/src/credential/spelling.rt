@@ -5,7 +5,7 @@ ghost use Rattle.std.specs.List.{flat_map, AllByRecursion};
 ghost use Rattle.krb_wire.specs.Text.{HasRoom, Puts};
 ghost use Rattle.krb_wire.specs.Spelling.{IsLong};
 ghost use Rattle.krb_ccache.specs.declared.version.Version.TheVariants.{V4};
-ghost use Rattle.krb_ccache.specs.Credential.{typed_data, typed_list, key, times, credential, FitsTypedData, FitsTypedList, FitsKey, FitsTimes, FitsCredential, owned_list, plain_key, middle_text, lists_text};
+ghost use Rattle.krb_ccache.specs.Credential.{typed_data, typed_list, times, credential, FitsTypedData, FitsTypedList, FitsKey, FitsTimes, FitsCredential, owned_list, middle_text, lists_text};
 
 use crate::credential::Cred;
 use crate::credential::times::Times;
@@ -28,16 +28,6 @@ fn room_after<A: Allocator>(room: usize, items: &[(u16, Vec<u8, A>)]) -> Option<
         room = room.checked_sub(6 + bytes.len())?;
     }
     Some(room)
-}
-
-// Writes a key with its enctype.
-fn put_key(enctype: u16, bytes: &[u8], pen: &mut Pen<'_>)
-    requires long { IsLong bytes.now }
-    requires room { HasRoom pen.old (key V4 (plain_key enctype bytes.now)) }
-    ensures { Puts pen.old pen.new (key V4 (plain_key enctype bytes.now)) }
-{
-    pen.put_u16(Order::Big, enctype);
-    pen.put_data32(Order::Big, bytes);
 }
 
 // Writes the four times.
@@ -82,16 +72,6 @@ fn put_list<A: Allocator>(items: &[(u16, Vec<u8, A>)], pen: &mut Pen<'_>)
     put_items(items, pen);
 }
 
-// Shows that numbers of these types are in the ranges of their types.
-fn in_range(client: u32, server: u32, enctype: u16, is_skey: u8, flags: u32, all: Times)
-    ensures client { client < 2 ^ 32 }
-    ensures server { server < 2 ^ 32 }
-    ensures enctype { enctype < 2 ^ 16 }
-    ensures is_skey { is_skey < 256 }
-    ensures flags { flags < 2 ^ 32 }
-    ensures times { FitsTimes all }
-{}
-
 impl<A: Allocator> Cred<A> {
     // Shows that each number is in the range of its type.
     fn numbers_fit(&self)
@@ -102,16 +82,12 @@ impl<A: Allocator> Cred<A> {
         ensures flags { self.now.flags < 2 ^ 32 }
         ensures times { FitsTimes self.now.times }
     {
-        let client = self.client.name_type;
-        let server = self.server.name_type;
-        in_range(
-            client,
-            server,
-            self.enctype,
-            self.is_skey,
-            self.flags,
-            self.times(),
-        );
+        let _client = self.client.name_type;
+        let _server = self.server.name_type;
+        let _enctype = self.enctype;
+        let _is_skey = self.is_skey;
+        let _flags = self.flags;
+        let _times = self.times();
     }
 
     // Returns its length in version 4, or `None` if that is more than `most`.
@@ -145,7 +121,7 @@ impl<A: Allocator> Cred<A> {
         requires room { HasRoom pen.old (middle_text self.now) }
         ensures { Puts pen.old pen.new (middle_text self.now) }
     {
-        put_key(self.enctype, &self.key, pen);
+        put_item(self.enctype, &self.key, pen);
         put_times(self.times(), pen);
         pen.put_u8(self.is_skey);
         pen.put_u32(Order::Big, self.flags);

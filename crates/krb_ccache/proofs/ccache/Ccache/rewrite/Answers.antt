@@ -1,25 +1,18 @@
-use Rattle.krb_ccache.proofs.Cited.{◌∙◌, map, sym, ap, subst, AllByRecursion, IsBytes, Store, IsPlace, CacheState, store_of, InMemory, Rewrites, carry}
+use Rattle.krb_ccache.proofs.Cited.{rules, ◌∙◌, map, sym, ap, subst, AllByRecursion, IsBytes, Store, IsPlace, CacheState, store_of, InMemory, Rewrites, carry}
 use Rattle.krb_ccache.proofs.Rewrites.{old_store}
 use Rattle.krb_ccache.proofs.ccache.Ccache.rewrite.Goals as goal
 
-pub carry_to-requires-clause-ahead : goal.carry_to-requires-clause-ahead
-carry_to-requires-clause-ahead g c =
-    (old_store _ _ c.deref_mut.result.now c.args.self.now.state c.deref_mut.ensures.value (subst IsBytes c.deref.ensures.value c.bytes_fit.ensures) c.self.invariant.0 (ap (λ (m : InMemory). m.state) c.self.view_is) c.in_ok-new.ensures.rewrites.whole).ahead
-
-pub carry_to-requires-clause-cells : goal.carry_to-requires-clause-cells
-carry_to-requires-clause-cells g c =
-    (old_store _ _ c.deref_mut.result.now c.args.self.now.state c.deref_mut.ensures.value (subst IsBytes c.deref.ensures.value c.bytes_fit.ensures) c.self.invariant.0 (ap (λ (m : InMemory). m.state) c.self.view_is) c.in_ok-new.ensures.rewrites.whole).are
-
-pub carry_to-requires-clause-rewrites : goal.carry_to-requires-clause-rewrites
-carry_to-requires-clause-rewrites g c =
-    let o = (old_store _ _ c.deref_mut.result.now c.args.self.now.state c.deref_mut.ensures.value (subst IsBytes c.deref.ensures.value c.bytes_fit.ensures) c.self.invariant.0 (ap (λ (m : InMemory). m.state) c.self.view_is) c.in_ok-new.ensures.rewrites.whole) in
+pub carry_to-requires : goal.carry_to-requires
+carry_to-requires g c =
+    let o = old_store _ _ c.deref_mut.result.now c.args.self.now.state c.deref_mut.ensures.value (subst IsBytes c.deref.ensures.value c.bytes_fit.ensures) c.self.invariant.0 (ap (λ (m : InMemory). m.state) c.self.view_is) c.in_ok-new.ensures.rewrites.whole in
     let new = c.cells.ensures ∙ ap (λ (k : CacheState). store_of k) (c.view.ensures ∙ c.in_ok-new.ensures.ok) in
-    subst (λ (s : Store). Rewrites s c.cells.result) (sym o.store) (subst (λ (s : Store). Rewrites (store_of c.args.self.now.state) s) (sym new) c.in_ok-new.ensures.rewrites)
-
-pub carry_to-requires-clause-places : goal.carry_to-requires-clause-places
-carry_to-requires-clause-places g c =
-    let o = (old_store _ _ c.deref_mut.result.now c.args.self.now.state c.deref_mut.ensures.value (subst IsBytes c.deref.ensures.value c.bytes_fit.ensures) c.self.invariant.0 (ap (λ (m : InMemory). m.state) c.self.view_is) c.in_ok-new.ensures.rewrites.whole) in
-    subst (λ (s : Store). AllByRecursion (IsPlace s) c.args.cursors.now) (sym o.store) c.requires
+    record {
+      ahead = o.ahead;
+      within = search rules;
+      cells = o.are;
+      rewrites = subst (λ (s : Store). Rewrites s c.cells.result) (sym o.store) (subst (λ (s : Store). Rewrites (store_of c.args.self.now.state) s) (sym new) c.in_ok-new.ensures.rewrites);
+      places = subst (λ (s : Store). AllByRecursion (IsPlace s) c.args.cursors.now) (sym o.store) c.requires;
+    }
 
 pub returns-clause-carries : goal.returns-clause-carries
 returns-clause-carries g c =
