@@ -25,10 +25,7 @@ IsNext f bytes (NoMore e) = IsAtEnd f bytes e
 
 -- a length, and the bytes of its cell after it
 taken : (f : KtFormat) (bytes rest : List ℕ) (c : Cell) (n m : ℕ) → Takes bytes (digits (order_of f) w32 m) rest → bytes_of c ≡ take n rest → m ≡ length_field c → IsCell f c → TakesCell f bytes c (drop n rest)
-taken f bytes rest c n m t is field sound =
-    let o = order_of f in
-    let second : Takes rest (bytes_of c) (drop n rest) = record { parts = sym (ap (λ (b : List ℕ). b ++ drop n rest) is ∙ take-append-drop n rest); rest_fits = IsBytes-drop n rest t.rest_fits } in
-    record { takes = Takes-then bytes (digits o w32 (length_field c)) rest (bytes_of c) (drop n rest) (subst (λ (k : ℕ). Takes bytes (digits o w32 k) rest) field t) second; sound = sound }
+taken f bytes rest c n m t is field sound = search (arith, Takes, take-append-drop, IsBytes-drop, Takes-then)
 
 live_taken : (f : KtFormat) (bytes : List ℕ) (n : ℕ) (rest : List ℕ) → Takes bytes (digits (order_of f) w32 n) rest → HasField (says.Live n) → n ≤ length rest → is_some (entry_at f (take n rest)) ≡ true
     → TakesCell f bytes (Live (take n rest)) (drop n rest)
@@ -79,12 +76,8 @@ next_is f bytes s fits e = next_by_is f bytes s (number_at (order_of f) w32 byte
 -- ---- what is spelled is read
 
 last_again : (f : KtFormat) (c : Cell) (rest bytes : List ℕ) → IsCell f c → next_of_length f bytes (bytes_of c ++ rest) (length_of_cell c) ≡ More c rest
-last_again f (Live b) rest bytes sound =
-    let long : ltb (length (b ++ rest)) (length b) ≡ false = le-ltb _ _ (omega (arith, length-append b rest)) in
-    rw (long, take_at b rest (length b) refl, drop_at b rest (length b) refl, sound.2) refl
-last_again f (Free b) rest bytes sound =
-    let long : ltb (length (b ++ rest)) (length b) ≡ false = le-ltb _ _ (omega (arith, length-append b rest)) in
-    rw (long, take_at b rest (length b) refl, drop_at b rest (length b) refl) refl
+last_again f (Live b) rest bytes sound = search (arith, le-ltb, length-append, take_at, drop_at)
+last_again f (Free b) rest bytes sound = search (arith, le-ltb, length-append, take_at, drop_at)
 
 -- the number before a cell
 pub field_again : (f : KtFormat) (c : Cell) (rest : List ℕ) → IsCell f c → number_at (order_of f) w32 (cell (order_of f) c ++ rest) ≡ Some (length_field c, bytes_of c ++ rest)

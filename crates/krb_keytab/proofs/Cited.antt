@@ -20,7 +20,7 @@ pub use Rattle.krb_keytab.specs.Find.{PlacedEntry, is_match, placed_entries, loo
 pub use Rattle.krb_keytab.specs.Form.{written_form, fits, IsEntry, IsRecord, read_back, front_of, kept_type}
 pub use Rattle.krb_keytab.specs.Image.{IsKnownEnd, ends, IsChanged, len_with, ending_kind, mark_len, IsPassed, EndsThere}
 pub use Rattle.krb_keytab.specs.Index.{slot_at, IsIndex, IsFit, IsLiveNumber, HasSpare, fit_of}
-pub use Rattle.krb_keytab.specs.LookUp.{IsFoundAmong, answer, IsPrefix, begin_with, same_first}
+pub use Rattle.krb_keytab.specs.LookUp.{IsFoundAmong, answer, IsPrefix}
 pub use Rattle.krb_keytab.specs.Nodes.{AreNodesFrom, IsTree, child_with, AreNodes, AreNodesBut}
 pub use Rattle.krb_keytab.specs.Rewrite.{rewrite_of, new_record, rewrite_result, keytab_rules}
 pub use Rattle.krb_keytab.specs.Slot.{free_size, slots_from, slot_of, places, IsRank, hole_of_slot, is_free, negated, IsRising, room_of}

@@ -36,7 +36,4 @@ none_inside s c cells at p first is lt other = ap (λ (n : ℕ). bytes_from n s.
 
 -- where the cells before a cell end, the store has the bytes of that cell
 pub live_there : (front back : List Cell) (c : Cell) (p : ℕ) → p ≡ end_place 2 front → bytes_from 2 (map store_cell (front ++ (c ∷ back))) p ≡ live_of c
-live_there front back c p place =
-    ap (λ (xs : List StoreCell). bytes_from 2 xs p) (map-append store_cell front (c ∷ back))
-    ∙ ap (bytes_from 2 (map store_cell front ++ store_cell c ∷ map store_cell back)) place
-    ∙ bytes_here 2 (4 + size c) (live_of c) (map store_cell front) (map store_cell back) (store_sound front)
+live_there front back c p place = search (arith, bytes_from, map-append, bytes_here, store_sound)

@@ -1,5 +1,5 @@
 -- The first cell of bytes, by its length.
-use Rattle.krb_keytab.proofs.Cited.{◌≡◌, ℕ, ◌+◌, ◌≤◌, List, [], ◌∷◌, ◌++◌, length, take, drop, Some, None, refl, sym, ap, subst, ◌∙◌, append_assoc, length-append, arith, flat_map, AllByRecursion, w32, take_at, drop_at, length-drop, flat_map-cons, KtFormat, order_of, digits, number_at, IsBytes, some_is, wide32, Length, length_of, size_of, Cell, Contents, bytes_of, length_of_cell, length_field, cell, cell_in, end_bytes, next, contents, IsCell, IsSpelled, size, IsCellOrNothing, IsFirst, More}
+use Rattle.krb_keytab.proofs.Cited.{◌≡◌, ℕ, ◌+◌, ◌≤◌, List, [], ◌∷◌, ◌++◌, length, take, drop, Some, None, refl, sym, ap, subst, ◌∙◌, append_assoc, length-append, arith, flat_map, AllByRecursion, w32, take_at, drop_at, length-drop, flat_map-cons, KtFormat, order_of, number_at, IsBytes, some_is, wide32, Length, length_of, size_of, Cell, Contents, bytes_of, length_field, cell, cell_in, end_bytes, next, contents, IsCell, IsSpelled, size, IsCellOrNothing, IsFirst, More}
 use Rattle.krb_keytab.proofs.CellLemmas.{contents_next, contents_spelled, cell_again, field_again}
 use Rattle.krb_keytab.proofs.Cuts.{cell_len}
 use Rattle.krb_keytab.proofs.LengthLemmas.{length_again, cell_has, size_is, cell_again as cell_of_bytes}
@@ -13,19 +13,7 @@ record FirstCell (f : KtFormat) (bytes : List ℕ) (c : Cell) : Type 0 where
   pub within : 4 + size c ≤ length bytes
 
 first_cell_of : (f : KtFormat) (c : Cell) (rest bytes : List ℕ) → bytes ≡ cell (order_of f) c ++ rest → IsCell f c → FirstCell f bytes c
-first_cell_of f c rest bytes is sound =
-    let o = order_of f in
-    let d = digits o w32 (length_field c) in
-    let four : length d ≡ 4 = (wide32 o).len (length_field c) in
-    let behind : drop 4 bytes ≡ bytes_of c ++ rest = ap (drop 4) (is ∙ append_assoc d (bytes_of c) rest) ∙ drop_at d (bytes_of c ++ rest) 4 four in
-    let left : drop (4 + size c) bytes ≡ rest = ap (drop (4 + size c)) is ∙ drop_at (cell o c) rest (4 + size c) (cell_len o c) in
-    record {
-      sound = sound;
-      number = ap (number_at o w32) is ∙ field_again f c rest sound ∙ ap (λ (b : List ℕ). Some (length_field c, b)) (sym behind);
-      taken = ap (take (size c)) behind ∙ take_at (bytes_of c) rest (size c) refl;
-      next = ap (next f) is ∙ cell_again f c rest sound ∙ ap (More c) (sym left);
-      within = omega (arith, ap length is, length-append (cell o c) rest, cell_len o c);
-    }
+first_cell_of f c rest bytes is sound = search (arith, wide32, append_assoc, drop_at, cell_len, field_again, take_at, cell_again, length-append)
 
 -- the first of the cells that bytes hold is known by its length
 first_cell_by : (f : KtFormat) (bytes : List ℕ) (k : Contents) (c : Cell) (cs : List Cell) → k.cells ≡ c ∷ cs → IsSpelled f bytes k → FirstCell f bytes c
@@ -44,16 +32,7 @@ pub record FirstRead (f : KtFormat) (bytes rest : List ℕ) (l : Length) : Type 
   pub first : IsFirst f bytes (cell_in l (take (size_of l) rest))
 
 read_first : (f : KtFormat) (bytes rest : List ℕ) (n : ℕ) (l : Length) (c : Cell) → IsBytes bytes → FirstCell f bytes c → number_at (order_of f) w32 bytes ≡ Some (n, rest) → l ≡ length_of n → FirstRead f bytes rest l
-read_first f bytes rest n l c fits t e is =
-    let same = some_is (n, rest) (length_field c, drop 4 bytes) (sym e ∙ t.number) in
-    let behind : rest ≡ drop 4 bytes = ap (λ (x : ℕ × List ℕ). x.1) same in
-    let says : l ≡ length_of_cell c = is ∙ ap (λ (x : ℕ × List ℕ). length_of x.0) same ∙ length_again (length_of_cell c) (cell_has f c t.sound) in
-    let as_many : size_of l ≡ size c = ap size_of says ∙ size_is c in
-    let is_cell : cell_in l (take (size_of l) rest) ≡ c = ap (λ (b : List ℕ). cell_in l (take (size_of l) b)) behind ∙ cell_of_bytes c l (drop 4 bytes) says t.taken in
-    record {
-      room = omega (arith, as_many, t.within, ap length behind, length-drop 4 bytes);
-      first = subst (IsFirst f bytes) (sym is_cell) (record { contents = contents_next f bytes (More c (drop (4 + size c) bytes)) fits t.next; sound = t.sound; within = t.within });
-    }
+read_first f bytes rest n l c fits t e is = search (arith, some_is, length_again, cell_has, size_is, cell_of_bytes, length-drop, contents_next)
 
 no_number : (f : KtFormat) (n : ℕ) (rest : List ℕ) → number_at (order_of f) w32 [] ≡ Some (n, rest) → ⊥
 no_number f n rest e = cc

@@ -74,11 +74,7 @@ longer_there k bytes count room t some spare lacks = elim (cases_lt (length (ima
 -- ---- a leaf for one cell more
 
 pub stays_grown : (t : SizeTree) (n : ℕ) → IsHeightFor n t.height → n < 2 ^ t.height → IsGrown n t t
-stays_grown t n least lt = let none : 0 ≡ 2 ^ t.height - 2 ^ t.height = omega arith in record {
-  sizes = sym (append-nil t.sizes) ∙ ap (λ (m : ℕ). t.sizes ++ replicate {A = ℕ} m 0) none;
-  height = same_height n t.height least lt;
-  higher = omega arith;
-}
+stays_grown t n least lt = search (arith, append-nil, same_height)
 
 pub doubles_grown : (t u : SizeTree) (n : ℕ) → n ≡ 2 ^ t.height → length t.sizes ≡ 2 ^ t.height → u.sizes ≡ t.sizes ++ replicate (length t.sizes) 0 → u.height ≡ t.height + 1 → IsGrown n t u
 doubles_grown t u n full len sizes height =

@@ -14,7 +14,6 @@ pub mod AppendLemmas
 pub mod Additions
 pub mod Removals
 pub mod StoreChanges
-pub mod HasNameLemmas
 pub mod LookUpLemmas
 pub mod PrefixLemmas
 pub mod WrittenLemmas

@@ -15,22 +15,10 @@ slots_parts at (x ∷ front) back c = ap (λ (s : List Slot). slot_of (at, x) �
 
 -- another cell of its size changes this slot alone
 pub set_slot : (at : ℕ) (front back : List Cell) (c d : Cell) → cells.size d ≡ cells.size c → slots_from at (front ++ (d ∷ back)) ≡ set (slots_from at (front ++ (c ∷ back))) (length front) (slot_of (end_place at front, d))
-set_slot at front back c d same =
-    let p = end_place at front in
-    let rest : slots_from (p + (4 + cells.size d)) back ≡ slots_from (p + (4 + cells.size c)) back = ap (λ (n : ℕ). slots_from (p + (4 + n)) back) same in
-    slots_parts at front back d ∙ ap (λ (s : List Slot). slots_from at front ++ (slot_of (p, d) ∷ s)) rest
-    ∙ sym (ap (λ (s : List Slot). set s (length front) (slot_of (p, d))) (slots_parts at front back c)
-    ∙ ap (λ (n : ℕ). set (slots_from at front ++ (slot_of (p, c) ∷ slots_from (p + (4 + cells.size c)) back)) n (slot_of (p, d))) (sym (slots_len at front))
-    ∙ set-append_seam (slots_from at front) (slot_of (p, c)) (slots_from (p + (4 + cells.size c)) back) (slot_of (p, d)))
+set_slot at front back c d same = search (arith, slots_parts, set, slots_len, set-append_seam)
 
 slot_seam : (k : KeytabState) (front back : List Cell) (c : Cell) → k.contents.cells ≡ front ++ (c ∷ back) → slot_at k (length front) ≡ slot_of (end_place 2 front, c)
-slot_seam k front back c parts =
-    let none : Slot = record { place = 0; field = 0 } in
-    let s = slots_from 2 front in
-    ap (λ (xs : List Cell). get_or (slots_from 2 xs) (length front) none) parts
-    ∙ ap (λ (t : List Slot). get_or t (length front) none) (slots_parts 2 front back c)
-    ∙ ap (λ (n : ℕ). get_or (s ++ (slot_of (end_place 2 front, c) ∷ slots_from (end_place 2 front + (4 + cells.size c)) back)) n none) (sym (slots_len 2 front))
-    ∙ get_or-append_seam s (slot_of (end_place 2 front, c)) (slots_from (end_place 2 front + (4 + cells.size c)) back) none
+slot_seam k front back c parts = search (arith, slots_parts, slots_len, get_or-append_seam)
 
 -- a prefix of the cells that ends where the first i end has i cells
 pub number_is : (cs front rest : List Cell) (i : ℕ) → cs ≡ front ++ rest → i < length cs → end_place 2 front ≡ end_place 2 (take i cs) → length front ≡ i

@@ -1,6 +1,5 @@
 -- Considering one entry after the other finds the result of the look-up.
-use Rattle.krb_keytab.proofs.Cited.{◌≡◌, ℕ, Bool, true, false, cond, ltb, List, [], ◌∷◌, ◌++◌, Option, Some, None, Ok, refl, sym, ap, subst, ◌∙◌, arith, inl, inr, ◌&&◌, ◌||◌, ◌==◌, max, filter, find, append-nil, eqb_tells, Parts, have_same_name, answer, IsFoundAmong, PlacedEntry, is_match, greatest, selected_version, first_or_missing, look_up_in, nat_tests, filter-append}
-use Rattle.krb_keytab.proofs.HasNameLemmas.{and_true}
+use Rattle.krb_keytab.proofs.Cited.{◌≡◌, ℕ, Bool, true, false, cond, ltb, List, [], ◌∷◌, ◌++◌, Option, Some, None, Ok, refl, sym, ap, subst, ◌∙◌, arith, inl, inr, ◌&&◌, ◌||◌, ◌==◌, max, filter, find, append-nil, eqb_tells, Parts, have_same_name, answer, IsFoundAmong, PlacedEntry, is_match, greatest, selected_version, first_or_missing, look_up_in, nat_tests, filter-append, and_right}
 
 -- ---- one entry after the other
 
@@ -102,10 +101,17 @@ pub no_match : (n : Parts) (v t : ℕ) (xs : List PlacedEntry) (x : PlacedEntry)
 no_match n v t xs x named best other so_far =
     so_far ∙ ap (look_up_in v) (sym (filter-match n t xs x false other ∙ append-nil (filter (is_match n t) xs)))
 
+-- nor does one of another name
+pub other_name : (n : Parts) (v t : ℕ) (xs : List PlacedEntry) (x : PlacedEntry) (named : Bool) (best : Option PlacedEntry) → false ≡ have_same_name n x.1.principal → IsFoundAmong n v t xs named best → IsFoundAmong n v t (xs ++ x ∷ []) named best
+other_name n v t xs x named best other so_far = no_match n v t xs x named best (and_right _ _ (sym other)) so_far
+
 -- one that matches is selected, or not
 pub one_match : (n : Parts) (v t : ℕ) (xs : List PlacedEntry) (x : PlacedEntry) (better : Bool) (best : Option PlacedEntry) → is_match n t x ≡ true → look_up_in v (filter (is_match n t) xs ++ x ∷ []) ≡ cond better (Ok x) (answer true best)
     → IsFoundAmong n v t (xs ++ x ∷ []) true (cond better (Some x) best)
 one_match n v t xs x better best is next = answer_cond better x best ∙ sym next ∙ ap (look_up_in v) (sym (filter-match n t xs x true is))
+
+and_true : (b : Bool) → (b && true) ≡ b
+and_true b = search arith
 
 -- one with the name matches iff it has the enctype
 pub match_by_enctype : (n : Parts) (t : ℕ) (x : PlacedEntry) (has : Bool) → have_same_name n x.1.principal ≡ true → has ≡ (t == 0 || x.1.enctype == t) → is_match n t x ≡ has

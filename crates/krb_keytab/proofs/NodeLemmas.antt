@@ -26,9 +26,7 @@ at_least i s pos = let one : 1 ≤ s = omega arith in let more = mul-le-mul_left
 
 -- no leaf under a node is greater than it
 pub under : (nodes : List ℕ) (leaves : ℕ) → AreNodes leaves nodes → (k i j : ℕ) → 0 < i → i * 2 ^ k + 2 ^ k ≤ 2 * leaves → i * 2 ^ k ≤ j → j < i * 2 ^ k + 2 ^ k → slice_index nodes j ≤ slice_index nodes i
-under nodes leaves inner zero i j some room low high =
-    let e : j ≡ i = omega arith in
-    subst (λ (n : ℕ). slice_index nodes n ≤ slice_index nodes i) (sym e) (omega arith)
+under nodes leaves inner zero i j some room low high = search arith
 under nodes leaves inner (suc k) i j some room low high =
     let p : i * 2 ^ suc k ≡ 2 * (i * 2 ^ k) = ap (λ (n : ℕ). i * n) (pow-suc 2 k) ∙ times_twice i (2 ^ k) in
     let q = pow-suc 2 k in

@@ -1,8 +1,8 @@
 -- The spelling of a name up to its name type is a prefix of each entry of the name.
-use Rattle.krb_keytab.proofs.Cited.{◌≡◌, ℕ, ◌+◌, ◌-◌, Bool, true, false, List, [], ◌∷◌, ◌++◌, length, take, drop, Option, Some, refl, sym, ap, subst, ◌∙◌, append_assoc, length-append, arith, nat_eq, w16, flat_map, splice, starts_with, and_right, false_from_ne_true, true≢false, Decides-eqb, take_at, KtFormat, Parts, order_of, digits, data16, count_field, kt_principal, name_type_field, have_same_name, IsBytes, and_both, EntryParts, entry_at, PlacedEntry, IsFoundAmong, IsPrefix}
+use Rattle.krb_keytab.proofs.Cited.{◌≡◌, ℕ, ◌+◌, ◌-◌, Bool, true, false, List, [], ◌∷◌, ◌++◌, length, take, drop, Option, Some, refl, sym, ap, subst, ◌∙◌, append_assoc, length-append, arith, nat_eq, w16, flat_map, splice, starts_with, false_from_ne_true, true≢false, Decides-eqb, take_at, KtFormat, Parts, order_of, digits, data16, count_field, kt_principal, name_type_field, have_same_name, IsBytes, and_both, EntryParts, entry_at, PlacedEntry, IsFoundAmong, IsPrefix}
 use Rattle.std.proofs.lemmas.Slice.Eq.{bytes_eq-Decides, slice_eq-Decides, starts_is}
 use Rattle.krb_keytab.proofs.EntryLemmas.{entry_spelled}
-use Rattle.krb_keytab.proofs.LookUpLemmas.{no_match}
+use Rattle.krb_keytab.proofs.LookUpLemmas.{other_name}
 
 -- the spelling of a name up to its name type
 abbrev untyped : KtFormat → Parts → List ℕ
@@ -39,4 +39,4 @@ pub passed_over : (f : KtFormat) (name : Parts) (prefix bytes : List ℕ) (kvno 
     → (xs : List PlacedEntry) (e : EntryParts) → entry_at f bytes ≡ Some e → IsFoundAmong name kvno enctype xs named best → IsFoundAmong name kvno enctype (xs ++ (place, e) ∷ []) named best
 passed_over f name prefix bytes kvno enctype place named best is fits not xs e read =
     let other : have_same_name name e.principal ≡ false = false_from_ne_true _ (λ same. true≢false (sym (is e bytes (entry_spelled f bytes e fits read) same) ∙ not)) in
-    no_match name kvno enctype xs (place, e) named best (and_right _ _ other)
+    other_name name kvno enctype xs (place, e) named best (sym other)

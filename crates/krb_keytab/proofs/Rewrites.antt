@@ -1,5 +1,5 @@
 -- A rewritten keytab, as a store.
-use Rattle.krb_keytab.proofs.Cited.{◌≡◌, ℕ, ◌+◌, ◌^◌, ◌<◌, ◌≤◌, true, List, [], ◌∷◌, ◌++◌, length, map, drop, Option, Some, None, Ok, refl, sym, ap, subst, ◌∙◌, append_assoc, length-append, arith, is_some, w32, filter_map, flat_map, cons_option, AllByRecursion, append-nil, flat_map-cons, Order, Big, KtFormat, V2, order_of, digits, HasNameType, number_at, IsBytes, IsBytes-drop, is_some_has, wide32, number_takes, Rewrites, records_of, EntryParts, entry_at, front, entry_of, Spells, version_by, Cell, Live, Free, Bare, Contents, bytes_of, length_field, cell, end_bytes, contents, IsCell, IsSound, KeytabState, store_cell, store_of, end_place, image_of, entries, written_form, fits, IsEntry, new_record, rewrite_of, rewrite_result, IsKnownEnd, drop_of_length-le, nat_tests, IsBytes-front, IsBytes-back}
+use Rattle.krb_keytab.proofs.Cited.{◌≡◌, ℕ, ◌+◌, ◌^◌, ◌<◌, ◌≤◌, true, List, [], ◌∷◌, ◌++◌, length, map, drop, Option, Some, None, Ok, refl, sym, ap, subst, ◌∙◌, append_assoc, length-append, arith, is_some, w32, filter_map, flat_map, cons_option, AllByRecursion, append-nil, flat_map-cons, Order, Big, KtFormat, V2, order_of, digits, HasNameType, number_at, IsBytes, IsBytes-drop, is_some_has, wide32, number_takes, Rewrites, records_of, EntryParts, entry_at, front, entry_of, Spells, version_by, Cell, Live, Free, Bare, bytes_of, length_field, cell, end_bytes, contents, IsCell, IsSound, KeytabState, store_cell, store_of, image_of, entries, written_form, fits, IsEntry, new_record, rewrite_of, rewrite_result, IsKnownEnd, drop_of_length-le, nat_tests, IsBytes-front, IsBytes-back}
 use Rattle.krb_walk.specs.declared.refusal.Code.TheVariants as code
 use Rattle.krb_walk.specs.Store.{Cell as StoreCell}
 use Rattle.krb_walk.proofs.Lives.{lives}
@@ -104,9 +104,7 @@ new_cells_sound f (Live b ∷ cs) sound fits small =
 
 -- the first cell keeps its entry, if one is read there
 kept_by : (f : KtFormat) (b : List ℕ) (cs : List Cell) (o : Option EntryParts) → entry_at f b ≡ o → IsBytes b → entries_of V2 (new_cells f cs) ≡ entries_of f cs → entries_of V2 (new_cells f (Live b ∷ cs)) ≡ entries_of f (Live b ∷ cs)
-kept_by f b cs None is fits kept =
-    let same = ap (λ (o : Option EntryParts). cons_option o (entries_of f cs)) is in
-    ap (λ (es : List EntryParts). entries_of V2 (map new_record es)) same ∙ kept ∙ sym same
+kept_by f b cs None is fits kept = search arith
 kept_by f b cs (Some e) is fits kept =
     let g = gives_back f b e fits is in
     ap (λ (es : List EntryParts). entries_of V2 (map new_record es)) (entries_live f b e cs is) ∙ entries_live V2 (written_form V2 e) e (new_cells f cs) g.back ∙ ap (λ (es : List EntryParts). e ∷ es) kept ∙ sym (entries_live f b e cs is)
@@ -145,26 +143,10 @@ rewrite_contents k new sound is fits =
     ap (λ (b : List ℕ). contents V2 (drop 2 b)) is ∙ contents_again V2 (rewrite_of k).contents sound (IsBytes-drop 2 (image_of (rewrite_of k)) (subst IsBytes is fits))
 
 pub rewrite_known : (k : KeytabState) (new : List ℕ) (len : ℕ) → contents V2 (drop 2 new) ≡ (rewrite_of k).contents → new ≡ image_of (rewrite_of k) → len ≡ length (image_of (rewrite_of k)) → IsKnownEnd V2 new (record { place = len; ending = ending.Bare })
-rewrite_known k new len is spelled is_len =
-    let ds = (rewrite_of k).contents.cells in
-    let at_end : drop len new ≡ [] = drop_of_length-le new {i = len} (omega (arith, is_len, ap length spelled)) in
-    let none : contents V2 (drop len new) ≡ record { cells = []; end = Bare } = ap (contents V2) at_end ∙ contents_none V2 in
-    let flat : length (image_of (rewrite_of k)) ≡ 2 + length (flat_map (cell Big) ds) = omega (arith, length-append (flat_map (cell Big) ds) []) in
-    record {
-      place = ap (λ (x : Contents). end_place 2 x.cells) is ∙ omega (arith, end_place_is Big 2 ds, flat, is_len);
-      within = omega (arith, is_len, ap length spelled);
-      same = ap (λ (x : Contents). x.end) is ∙ sym (ap (λ (x : Contents). x.end) none);
-      ending = none;
-    }
+rewrite_known k new len is spelled is_len = search (arith, drop_of_length-le, contents_none, length-append, end_place_is)
 
 pub rewrites_store : (k : KeytabState) → IsSound k.format k.contents → IsSound V2 (rewrite_of k).contents → (store_of k).fault ≡ None → Rewrites (store_of k) (store_of (rewrite_of k))
-rewrites_store k was sound whole = record {
-  whole = whole;
-  fault = refl;
-  sound = store_sound (rewrite_of k).contents.cells;
-  all_live = all_live_of (entries k);
-  as_many = ap (λ (es : List EntryParts). length (lives 2 (map store_cell (map new_record es)))) (entries_all k) ∙ as_many_of k.format k.contents.cells 2 2 was.cells;
-}
+rewrites_store k was sound whole = search (arith, store_sound, all_live_of, lives, entries_all, as_many_of)
 
 -- the new image, as a keytab
 pub rewrite_held : (f : KtFormat) (limit : ℕ) (image new : List ℕ) (k : KeytabState) → keytab_of f limit image ≡ k → contents V2 (drop 2 new) ≡ (rewrite_of k).contents → keytab_of V2 limit new ≡ rewrite_of k

@@ -20,12 +20,7 @@ zeros_after sizes leaves n = ap (λ (t : List ℕ). sizes ++ t) (drop-replicate 
 
 -- the leaves of new nodes, with sizes written over the first of the zeros
 pub filled : (power leaves n used : ℕ) (front items now new rest : List ℕ) → leaves ≡ power → items ≡ replicate (2 * leaves) 0 → now ≡ items → length new ≡ length now → length now ≡ used → drop leaves new ≡ front ++ drop (leaves + n) now → drop power (take used (new ++ rest)) ≡ front ++ replicate (power - n) 0
-filled power leaves n used front items now new rest same zeros is len uses leaves_are =
-    ap (drop power) (take_at new rest used (len ∙ uses))
-    ∙ ap (λ (m : ℕ). drop m new) (sym same) ∙ leaves_are
-    ∙ ap (λ (t : List ℕ). front ++ drop (leaves + n) t) (is ∙ zeros)
-    ∙ zeros_after front leaves n
-    ∙ ap (λ (m : ℕ). front ++ replicate (m - n) 0) same
+filled power leaves n used front items now new rest same zeros is len uses leaves_are = search (arith, take_at, zeros_after)
 
 -- the leaves of a tree that was doubled
 pub doubled : (height leaves used : ℕ) (sizes old items now new rest : List ℕ) → leaves ≡ 2 ^ height → sizes ≡ drop leaves old → length old ≡ 2 * leaves → items ≡ old ++ replicate (2 * leaves) 0 → now ≡ items → length new ≡ length now → length now ≡ used → drop (2 * leaves) new ≡ take leaves (drop leaves now) ++ drop (3 * leaves) now → drop (2 ^ (height + 1)) (take used (new ++ rest)) ≡ sizes ++ replicate (length sizes) 0

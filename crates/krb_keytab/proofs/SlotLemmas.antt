@@ -1,5 +1,5 @@
 -- The table of cells.
-use Rattle.krb_keytab.proofs.Cited.{◌≡◌, ℕ, ◌<◌, ◌≤◌, true, false, List, length, get_or, sym, subst, arith, inl, inr, nat_lt, slice_index, cases_lt, lt-ltb, ltb-true, ltb-false, length-map, get_or-map, Slot}
+use Rattle.krb_keytab.proofs.Cited.{◌≡◌, ℕ, ◌<◌, ◌≤◌, true, false, List, length, get_or, arith, nat_lt, slice_index, cases_lt, lt-ltb, ltb-true, ltb-false, length-map, get_or-map, Slot}
 use Rattle.std.specs.List.Sorted.{IsPartitionedBy, IsPartitionPoint}
 use Rattle.krb_keytab.specs.declared.length.Length.TheVariants as says
 use Rattle.krb_keytab.specs.Slot.{places, IsRising, IsRank}
@@ -11,12 +11,7 @@ place_at slots i d lt = get_or-map (λ (s : Slot). s.place) slots i d 0 lt
 
 -- a smaller place comes before a greater one
 pub partitioned_by_place : (slots : List Slot) (p : ℕ) → IsRising (places slots) → IsPartitionedBy (λ (s : Slot). nat_lt s.place p) slots
-partitioned_by_place slots p rising i j d le lt h =
-    let below : (get_or slots j d).place < p = ltb-true _ _ h in
-    elim (cases_lt i j) [
-      | inl before ↦ lt-ltb _ _ (omega (arith, below, place_at slots i d (omega arith), place_at slots j d lt, rising i j before (omega (arith, length-map slots (λ (s : Slot). s.place)))))
-      | inr same ↦ let is : i ≡ j = omega arith in subst (λ (k : ℕ). nat_lt (get_or slots k d).place p ≡ true) (sym is) h
-    ]
+partitioned_by_place slots p rising i j d le lt h = search (arith, ltb-true, cases_lt, lt-ltb, place_at, length-map)
 
 -- the default if there is no slot
 abbrev pub none : Slot

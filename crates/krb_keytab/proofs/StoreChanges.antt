@@ -1,5 +1,5 @@
 -- An addition to a keytab, and a removal from it, change one cell of its store.
-use Rattle.krb_keytab.proofs.Cited.{◌≡◌, ℕ, ◌+◌, true, List, [], ◌∷◌, map, length, Some, None, Result, Ok, Err, inl, inr, refl, sym, ap, subst, ◌∙◌, arith, IfOk, OnOk, map-append, length-replicate, leb-true, cuts-extends, place_kept, EntryParts, Cell, Live, Free, End, kind_of, KeytabState, store_cell, store_of, entry_at_place, written_form, read_back, IsEntry, replaced_at, zero_hole, is_hole, with_zeros, record_in, with_record_in, with_last, end_after, with_hole, put_result, cut_result, without, Code, keytab_rules, whole_of}
+use Rattle.krb_keytab.proofs.Cited.{◌≡◌, ℕ, ◌+◌, true, List, [], ◌∷◌, map, length, Some, None, Result, Ok, Err, inl, inr, refl, ap, subst, ◌∙◌, arith, IfOk, OnOk, map-append, length-replicate, leb-true, cuts-extends, place_kept, EntryParts, Cell, Live, Free, End, kind_of, KeytabState, store_cell, store_of, entry_at_place, written_form, read_back, IsEntry, replaced_at, zero_hole, is_hole, with_zeros, record_in, with_record_in, with_last, end_after, with_hole, put_result, cut_result, without, Code, keytab_rules, whole_of}
 use Rattle.krb_walk.specs.declared.refusal.Refusal.{Refusal}
 use Rattle.krb_walk.specs.declared.event.Event.TheVariants.{Cut}
 use Rattle.krb_walk.specs.Store.{end_of, live_bytes as store_bytes, IsPlace}
@@ -88,18 +88,7 @@ fills_at k x p (Free b) whole s large =
     }
 
 appends_at : (k : KeytabState) (x : List ℕ) → (store_of k).fault ≡ None → (store_of (with_last k x)).fault ≡ None → Puts (store_of k) (store_of (with_last k x)) (end_of (store_of k))
-appends_at k x whole still = record {
-  whole = whole;
-  how = inr (record {
-    width = 4 + length x;
-    bytes = x;
-    some_width = omega arith;
-    place = refl;
-    cells = map-append store_cell k.contents.cells (Live x ∷ []);
-    first = refl;
-    fault = still ∙ sym whole;
-  });
-}
+appends_at k x whole still = search (arith, map-append)
 
 -- an end without a fault has none after one more record
 still_whole : (e : End) → kind_of e ≡ None → kind_of (end_after e) ≡ None

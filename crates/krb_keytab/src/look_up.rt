@@ -8,12 +8,10 @@ ghost use Rattle.krb_keytab.specs.Find.{PlacedEntry, look_up_in};
 ghost use Rattle.krb_keytab.specs.LookUp.{answer, IsFoundAmong};
 
 mod find;
-mod has_name;
 
 use crate::entry::{EntryView, read_entry};
-use has_name::has_name;
 use krb_walk::Code;
-use krb_wire::{KtFormat, Name};
+use krb_wire::{KtFormat, Name, same_name};
 
 /// What is looked up. Kvno 0 selects the highest, enctype 0 any.
 #[derive(Drop)]
@@ -90,8 +88,9 @@ impl<'a> LookUp<'a> {
         }
     }
 
-    /// Considers the next record. Reads its entry only if it has the name.
+    /// Considers the next record.
     #[inline(always)]
+    #[tactic(auto, using(crate::proofs::LookUpLemmas::other_name))]
     pub fn consider<N: Name>(
         &mut self,
         query: &Query<'_, N>,
@@ -106,10 +105,10 @@ impl<'a> LookUp<'a> {
             → IsFoundAmong (N.parts query.now.name.now) query.now.kvno query.now.enctype
             (xs ++ (place, e) ∷ []) self.new.named self.new.best }
     {
-        if !has_name(format, query.name, bytes) {
+        let Some(entry) = read_entry(format, bytes) else {
             return;
-        }
-        if let Some(entry) = read_entry(format, bytes) {
+        };
+        if same_name(query.name, entry.principal()) {
             self.consider_entry(query.kvno, query.enctype, place, entry);
         }
     }
