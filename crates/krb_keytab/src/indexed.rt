@@ -11,7 +11,7 @@ mod tree;
 
 ghost use Rattle.std.specs.Prelude.{◌≡◌, IsSome, IfOk, IfErr, IfSome, IfNone, ℕ, Some, None, ◌<◌, ◌≤◌, ◌^◌, length, take, vec_capacity};
 ghost use Rattle.krb_wire.specs.Reading.{Gives};
-ghost use Rattle.krb_walk.specs.Store.{end_of, fault_of, is_place, stop_at, live_bytes, IsPlace, IsSound as IsSoundStore};
+ghost use Rattle.krb_walk.specs.Store.{fault_of, live_bytes};
 ghost use Rattle.krb_keytab.specs.Entry.{entry_at, Spells};
 ghost use Rattle.krb_keytab.specs.Cells.{IsSound};
 ghost use Rattle.krb_keytab.specs.Find.{find_result};
@@ -26,7 +26,7 @@ use crate::indexed::slot::Slot;
 use crate::indexed::table::{rank, table_of};
 use crate::indexed::tree::Tree;
 use crate::keytab::Keytab;
-use krb_walk::{Code, Fault, Stop};
+use krb_walk::{Code, Fault};
 use krb_wire::{KtFormat, Name, NoMemory};
 use std::alloc::Allocator;
 use std::marker::Model;
@@ -112,21 +112,6 @@ impl<A: Allocator> Indexed<A> {
         self.into_keytab().into_image()
     }
 
-    /// Returns the place of the first cell: 2, after the version bytes.
-    pub fn first(&self) -> u32
-        ensures first { result ≡ (store_of self.now.state).first }
-        ensures sound { IsSoundStore (store_of self.now.state) }
-    {
-        self.keytab.first()
-    }
-
-    /// Returns the place after the last sound cell.
-    pub fn end(&self) -> u32
-        ensures { result ≡ end_of (store_of self.now.state) }
-    {
-        self.keytab.end()
-    }
-
     /// Returns the fault after the last sound cell, or `None` if there is none.
     pub fn fault(&self) -> Option<Fault>
         ensures { result ≡ fault_of (store_of self.now.state) }
@@ -151,7 +136,7 @@ impl<A: Allocator> Indexed<A> {
     }
 
     // Returns the place after this many cells.
-    #[tactic(auto, using(crate::proofs::IndexLemmas::slot_place, crate::proofs::IndexLemmas::end_by_table))]
+    #[tactic(auto, using(crate::proofs::IndexLemmas::slot_place, crate::proofs::IndexLemmas::end_by_table, crate::proofs::Stores::state_is))]
     fn place_of(&self, rank: usize) -> u32
         requires { rank ≤ length self.now.state.contents.cells }
         ensures { result ≡ end_place 2 (take rank self.now.state.contents.cells) }
@@ -159,15 +144,7 @@ impl<A: Allocator> Indexed<A> {
         if rank < self.count() {
             return self.slot(rank).place;
         }
-        self.end()
-    }
-
-    /// True if `place` is the place of a cell, live or free, or `end()`.
-    #[tactic(auto, using(crate::proofs::IndexLemmas::is_place_by_rank, crate::proofs::PlaceLemmas::places_len))]
-    pub fn is_place(&self, place: u32) -> bool
-        ensures { result ≡ is_place (store_of self.now.state) place }
-    {
-        self.place_of(self.rank(place)) == place
+        self.keytab.end()
     }
 
     // Returns how many cells start before `place`.
@@ -176,14 +153,6 @@ impl<A: Allocator> Indexed<A> {
         ensures { IsRank (places (slots_from 2 self.now.state.contents.cells)) place result }
     {
         rank(&self.slots, place)
-    }
-
-    /// Returns the first live cell at or after `place`, or what ends the cells. Scans from `place` on.
-    pub fn stop_at(&self, place: u32) -> Stop
-        requires { IsPlace (store_of self.now.state) place }
-        ensures { result ≡ stop_at (store_of self.now.state) place }
-    {
-        self.keytab.stop_at(place)
     }
 
     // Returns the number of the first cell that is a hole of at least `need` bytes, and how many nodes were read.

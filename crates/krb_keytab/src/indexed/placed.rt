@@ -18,23 +18,24 @@ impl<A: Allocator + Copy> Placed for Indexed<A> {
     ghost rules = { keytab_rules };
 
     fn first(&self) -> u32 {
-        self.first()
+        self.keytab.first()
     }
 
     fn end(&self) -> u32 {
-        self.end()
+        self.keytab.end()
     }
 
     fn fault(&self) -> Option<Fault> {
         self.fault()
     }
 
+    #[tactic(auto, using(crate::proofs::IndexLemmas::is_place_by_rank, crate::proofs::PlaceLemmas::places_len))]
     fn is_place(&self, place: u32) -> bool {
-        self.is_place(place)
+        self.place_of(self.rank(place)) == place
     }
 
     fn stop_at(&self, place: u32) -> Stop {
-        self.stop_at(place)
+        self.keytab.stop_at(place)
     }
 
     fn bytes_at(&self, place: u32) -> &[u8] {
