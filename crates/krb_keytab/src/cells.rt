@@ -76,6 +76,7 @@ impl<'a> KtCell<'a> {
 }
 
 /// Returns the cell at the front of bytes whose entries were read before, by its length alone.
+#[tactic(auto, using(crate::proofs::FirstLemmas::first_read, crate::proofs::FirstLemmas::none_read))]
 #[inline(always)]
 pub fn first_cell(format: KtFormat, bytes: &[u8]) -> Option<KtCell<'_>>
     requires { IsCellOrNothing format bytes.now }

@@ -31,6 +31,7 @@ impl<'a, N: Name> Model for Form<'a, N> {
 }
 
 // Returns the length of an entry's written form, or `None` if a length or a count does not fit its field.
+#[tactic(auto, using(std::proofs::lemmas::Bool::Decides::nat_tests, crate::proofs::WrittenLemmas::fits_no))]
 fn entry_len<N: Name>(format: KtFormat, entry: &Fields<'_, N>) -> Option<u64>
     ensures fits { is_some result ≡ fits format entry.now }
     ensures len { IfSome result (λ n. n ≡ length (written_form format entry.now)) }

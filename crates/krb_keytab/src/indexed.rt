@@ -156,6 +156,7 @@ impl<A: Allocator> Indexed<A> {
     }
 
     // Returns the number of the first cell that is a hole of at least `need` bytes, and how many nodes were read.
+    #[tactic(auto, using(crate::proofs::Stores::state_is, crate::proofs::IndexLemmas::fit_is, crate::proofs::IndexLemmas::looks_are))]
     fn fit(&self, need: u32) -> (Option<usize>, u32)
         requires { 0 < need }
         ensures fit { IsFit self.now.state need result.0 }

@@ -194,6 +194,7 @@ impl<A: Allocator> Keytab<A> {
     }
 
     // Like `cells`, for a format that is known where this is inlined.
+    #[tactic(auto, using(std::proofs::lemmas::Bool::Decides::nat_tests))]
     #[inline(always)]
     pub(crate) fn cells_in(&self, format: KtFormat) -> CellViews<'_>
         requires { format ≡ self.now.state.format }
@@ -250,6 +251,7 @@ impl<A: Allocator> Keytab<A> {
 
     /// Returns the entry of the record at `place`, or `None` if no live cell starts there. Scans from the start; to
     /// iterate over all records, use `stop_at` and `bytes_at`.
+    #[tactic(auto, using(crate::proofs::Stores::entry_held, crate::proofs::Stores::none_there))]
     pub fn entry_at(&self, place: u32) -> Option<EntryView<'_>>
         ensures none { IfNone result (live_bytes (store_of self.now.state) place ≡ None) }
         ensures found { IfSome result (λ e. IfSome (live_bytes (store_of self.now.state) place)

@@ -23,6 +23,7 @@ use std::alloc::Allocator;
 
 impl<A: Allocator> Keytab<A> {
     /// Turns the record at `place` into a hole of its size, all zeros.
+    #[tactic(auto, using(std::proofs::lemmas::Bool::Decides::nat_tests))]
     pub(crate) fn free(&mut self, place: u32)
         requires { IsSome (live_bytes (store_of self.old.state) place) }
         ensures freed { self.new.state ≡ with_hole self.old.state place }
@@ -103,6 +104,7 @@ impl<A: Allocator> Keytab<A> {
     }
 
     /// Writes a record into the first hole that takes it.
+    #[tactic(auto, using(std::proofs::lemmas::Bool::Decides::nat_tests))]
     pub(crate) fn fill<N: Name>(&mut self, hole: Hole, form: &Form<'_, N>)
         requires hole { hole_from 2 (length form.now.bytes) self.old.state.contents.cells ≡ Some hole }
         requires format { form.now.format ≡ self.old.state.format }

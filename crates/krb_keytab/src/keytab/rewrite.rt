@@ -55,6 +55,7 @@ fn put_new_records<A: Allocator>(keytab: &Keytab<A>, pen: &mut Pen<'_>)
 }
 
 // Returns the length of the rewritten image and its number of records, or `None` if it is longer than `limit`.
+#[tactic(auto, using(crate::proofs::NewRecords::len_all, crate::proofs::NewRecords::count_all))]
 fn rewritten_len<A: Allocator>(keytab: &Keytab<A>, limit: usize) -> Option<(usize, u32)>
     requires some { 2 ≤ limit }
     requires small { limit ≤ 2 ^ 30 }
@@ -126,6 +127,7 @@ fn rewritten_image<A: Allocator, B: Allocator>(
 
 impl<A: Allocator + Copy> Keytab<A> {
     /// Returns the rewritten keytab, in memory of its own. Refuses as `rewrite` does.
+    #[tactic(auto, using(crate::proofs::Stores::state_is, crate::proofs::Rewrites::rewrite_held, crate::proofs::Rewrites::rewrites_store, krb_walk::proofs::Splits::whole_of))]
     pub(crate) fn rewritten(&self) -> Result<Keytab<A>, Refusal>
         ensures ok { IfOk result (λ k. rewrite_result self.now.state ≡ Ok k.state) }
         ensures err { IfErr result (λ e. RewriteGives (rewrite_result self.now.state) self.now.state (Err e) self.now.state) }
