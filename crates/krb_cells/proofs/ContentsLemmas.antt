@@ -20,10 +20,7 @@ shorter f bytes c after t is = let some = is.some in omega (arith, ap length t.p
 
 enough_by : {C E : Type 0} (f : Format C E) (n m : ℕ) (bytes : List ℕ) (s : NextCell C E) → ((after : List ℕ) → IsBytes after → length after < n → length after < m → first_cells f n after ≡ first_cells f m after)
     → length bytes < suc n → length bytes < suc m → IsNext f bytes s → on_next (first_cells f n) s ≡ on_next (first_cells f m) s
-enough_by {C = C} {E = E} f n m bytes (More c after) ih hn hm t =
-    let short = shorter f bytes c after t.0 t.1 in
-    let same : first_cells f n after ≡ first_cells f m after = ih after t.0.rest_fits (omega arith) (omega arith) in
-    ap (λ (k : Contents C E). record { cells = c ∷ k.cells; end = k.end }) same
+enough_by {C = C} {E = E} f n m bytes (More c after) ih hn hm t = search (arith, shorter)
 enough_by f n m bytes (NoMore e) ih hn hm t = refl
 
 -- with more turns than bytes, the contents do not depend on their number
@@ -36,10 +33,7 @@ enough f (suc n) (suc m) bytes is fits hn hm =
 
 contents_by : {C E : Type 0} (f : Format C E) (bytes : List ℕ) (s : NextCell C E) → IsFormat f → IsNext f bytes s → on_next (first_cells f (length bytes)) s ≡ on_next (contents f) s
 unfolding contents
-contents_by {C = C} {E = E} f bytes (More c after) is t =
-    let short = shorter f bytes c after t.0 t.1 in
-    let same : first_cells f (length bytes) after ≡ first_cells f (suc (length after)) after = enough f (length bytes) (suc (length after)) after is t.0.rest_fits (omega arith) (omega arith) in
-    ap (λ (k : Contents C E). record { cells = c ∷ k.cells; end = k.end }) same
+contents_by {C = C} {E = E} f bytes (More c after) is t = search (arith, shorter, enough)
 contents_by f bytes (NoMore e) is t = refl
 
 next_first : {C E : Type 0} (f : Format C E) (bytes : List ℕ) → contents f bytes ≡ on_next (first_cells f (length bytes)) (f.next bytes)
@@ -48,19 +42,11 @@ next_first f bytes = refl
 
 -- contents are the first cell and the contents of the rest
 pub contents_next : {C E : Type 0} (f : Format C E) (bytes : List ℕ) (s : NextCell C E) → IsFormat f → IsBytes bytes → f.next bytes ≡ s → contents f bytes ≡ on_next (contents f) s
-contents_next f bytes s is fits e =
-    next_first f bytes ∙ contents_by f bytes (f.next bytes) is (is bytes fits) ∙ ap (on_next (contents f)) e
+contents_next f bytes s is fits e = search (arith, next_first, contents_by)
 
 spelled_by : {C E : Type 0} (f : Format C E) (n : ℕ) (bytes : List ℕ) (s : NextCell C E) → ((after : List ℕ) → IsBytes after → length after < n → IsSpelled f after (contents f after))
     → length bytes < suc n → IsNext f bytes s → IsSpelled f bytes (on_next (contents f) s)
-spelled_by f n bytes (More c after) ih lt t =
-    let short = shorter f bytes c after t.0 t.1 in
-    let others = ih after t.0.rest_fits (omega arith) in
-    let k = contents f after in
-    record {
-      parts = t.0.parts ∙ ap (λ (b : List ℕ). f.cell c ++ b) others.parts ∙ sym (ap (λ (b : List ℕ). b ++ f.end_bytes k.end) (flat_map-cons f.cell c k.cells) ∙ append_assoc (f.cell c) (flat_map f.cell k.cells) (f.end_bytes k.end));
-      sound = record { cells = (t.1, others.sound.cells); end = others.sound.end };
-    }
+spelled_by f n bytes (More c after) ih lt t = search (arith, shorter, flat_map-cons, append_assoc)
 spelled_by f n bytes (NoMore e) ih lt t = record { parts = t.0; sound = record { cells = tt; end = t.1 } }
 
 spelled_within : {C E : Type 0} (f : Format C E) (n : ℕ) (bytes : List ℕ) → IsFormat f → IsBytes bytes → length bytes < n → IsSpelled f bytes (contents f bytes)
@@ -119,13 +105,7 @@ pub reads_one : {C : Type 0} {read : List ℕ → Option (C × List ℕ)} {spell
 reads_one {C = C} {read = read} {spell = spell} field bytes c after fits e =
     let t = field.takes bytes (c, after) fits e in
     let is = contents_next (unframed read spell) bytes (More c after) (unframed_format field) fits (ap (next_by bytes) e) in
-    record {
-      cells = ap (λ (k : Contents C (List ℕ)). k.cells) is;
-      end = ap (λ (k : Contents C (List ℕ)). k.end) is;
-      len = ap length t.0.parts ∙ length-append (spell c) after;
-      some = field.nonempty c;
-      fits = t.0.rest_fits;
-    }
+    search (arith, length-append, is, t)
 
 -- if nothing is read, there are no cells and the bytes are the end
 pub reads_none : {C : Type 0} {read : List ℕ → Option (C × List ℕ)} {spell : C → List ℕ} {Fits : C → Type 0} → IsField read spell Fits → (bytes : List ℕ) → IsBytes bytes → read bytes ≡ None → contents (unframed read spell) bytes ≡ record { cells = []; end = bytes }

@@ -17,8 +17,7 @@ sound cells place bytes s holds is = subst (AllByRecursion (λ (c : Cell). 0 < c
 
 filled : (cells : List ℕ → List Cell) (at : ℕ) (bytes : List ℕ) (cs : List Cell) → HasCells cells bytes cs → end_from at cs ≡ at + length bytes
 filled cells at bytes [] has = omega (arith, ap length has)
-filled cells at bytes (c ∷ cs) has =
-    filled cells (at + c.width) (drop c.width bytes) cs has.3 ∙ omega (arith, length-drop c.width bytes, has.1)
+filled cells at bytes (c ∷ cs) has = search (arith, length-drop, filled cells (at + c.width) (drop c.width bytes) cs has.3)
 
 -- the cells end where the bytes do
 pub ends : (cells : List ℕ → List Cell) (place : ℕ) (bytes : List ℕ) (fault : Option FaultKind) (s : Store) → HoldsCells cells place bytes
@@ -35,16 +34,7 @@ pub record CutAt (cells : List ℕ → List Cell) (at : ℕ) (bytes : List ℕ) 
   pub rest : AreCells cells (drop (p - at) bytes)
 
 cut_here : (cells : List ℕ → List Cell) (at : ℕ) (bytes : List ℕ) (cs : List Cell) (p : ℕ) → HasCells cells bytes cs → cells bytes ≡ cs → at ≡ p → CutAt cells at bytes cs p
-cut_here cells at bytes cs p has is same =
-    let none : 0 ≡ p - at = omega arith in
-    record {
-      before = [];
-      ahead = omega arith;
-      within = omega arith;
-      place = sym same;
-      parts = sym is ∙ ap (λ (n : ℕ). cells (drop n bytes)) none;
-      rest = subst (λ (n : ℕ). AreCells cells (drop n bytes)) none (subst (HasCells cells bytes) (sym is) has);
-    }
+cut_here cells at bytes cs p has is same = search arith
 
 cut_after : (cells : List ℕ → List Cell) (at : ℕ) (bytes : List ℕ) (c : Cell) (cs : List Cell) (p : ℕ) → c.width ≤ length bytes → CutAt cells (at + c.width) (drop c.width bytes) cs p → CutAt cells at bytes (c ∷ cs) p
 cut_after cells at bytes c cs p wide k =
@@ -75,8 +65,7 @@ cut_held cells place bytes fault s p holds is at = cut cells place bytes (cells 
 
 -- the bytes from a place on hold the cells from there on
 pub holds_from : (cells : List ℕ → List Cell) (place : ℕ) (bytes : List ℕ) (p : ℕ) → HoldsCells cells place bytes → CutAt cells place bytes (cells bytes) p → HoldsCells cells p (drop (p - place) bytes)
-holds_from cells place bytes p holds k =
-    record { are = k.rest; small = omega (arith, holds.small, k.ahead, k.within, length-drop (p - place) bytes) }
+holds_from cells place bytes p holds k = search (arith, length-drop)
 
 stop_by : (at p : ℕ) (all after : List Cell) (fault : Option FaultKind) (o : Option Record) → end_from at all ≡ end_from p after → stop_of (record { first = at; cells = all; fault = fault }) o ≡ stop_of (record { first = p; cells = after; fault = fault }) o
 stop_by at p all after fault (Some r) end = refl
@@ -85,15 +74,7 @@ stop_by at p all after fault None end = ap (λ (n : ℕ). end_stop n fault) end
 -- look-ups at or after a split give the same in the cells from the split on
 from_split : (at p : ℕ) (before after : List Cell) (fault : Option FaultKind) → p ≡ end_from at before → AllByRecursion (λ c. 0 < c.width) before
     → IsFrom (record { first = at; cells = before ++ after; fault = fault }) p (record { first = p; cells = after; fault = fault })
-from_split at p before after fault place sound =
-    let next : next_from at (before ++ after) p ≡ next_from p after p = next_ahead at p before after sound (omega (arith, place)) ∙ ap (λ (n : ℕ). next_from n after p) (sym place) in
-    let end : end_from at (before ++ after) ≡ end_from p after = end_from-append at before after ∙ ap (λ (n : ℕ). end_from n after) (sym place) in
-    let whole : Store = record { first = at; cells = before ++ after; fault = fault } in
-    record {
-      first = refl;
-      stop = sym (ap (stop_of whole) next ∙ stop_by at p (before ++ after) after fault (next_from p after p) end);
-      bytes = λ q ahead. sym (bytes_ahead at q before after sound (omega (arith, place, ahead)) ∙ ap (λ (n : ℕ). bytes_from n after q) (sym place));
-    }
+from_split at p before after fault place sound = search (arith, next_from, next_ahead, sound, end_from-append, stop_by, bytes_ahead, bytes_from)
 
 pub is_from : (cells : List ℕ → List Cell) (place : ℕ) (bytes : List ℕ) (fault : Option FaultKind) (s : Store) (p : ℕ) → HoldsCells cells place bytes
     → ◌≡◌ {A = Store} (record { first = place; cells = cells bytes; fault = fault }) s → CutAt cells place bytes (cells bytes) p

@@ -1,5 +1,5 @@
 -- Bytes with the contents of a format are exactly their cells.
-use Rattle.krb_cells.proofs.Cited.{◌≡◌, ℕ, zero, suc, ◌<◌, ◌≤◌, List, [], length, map, drop, refl, sym, ap, subst, ◌∙◌, length-append, arith, drop_at, IsBytes, Cell, HasCells, AreCells, seen_in}
+use Rattle.krb_cells.proofs.Cited.{◌≡◌, ℕ, zero, suc, ◌<◌, ◌≤◌, List, [], length, map, refl, sym, ap, subst, ◌∙◌, length-append, arith, drop_at, IsBytes, Cell, HasCells, AreCells, seen_in}
 use Rattle.krb_cells.specs.Contents.{NextCell, More, NoMore, Contents, Format, on_next, contents}
 use Rattle.krb_cells.proofs.ContentsLemmas.{IsNext, IsFormat, contents_next}
 
@@ -12,15 +12,7 @@ pub record IsSeen {C E : Type 0} (f : Format C E) (seen : C → Cell) : Type 0 w
 
 are_by : {C E : Type 0} (f : Format C E) (seen : C → Cell) (n : ℕ) (bytes : List ℕ) (s : NextCell C E) → IsSeen f seen → ((after : List ℕ) → IsBytes after → length after < n → (contents f after).end ≡ f.none → AreCells (seen_in f seen) after)
     → length bytes < suc n → IsNext f bytes s → (on_next (contents f) s).end ≡ f.none → HasCells (seen_in f seen) bytes (map seen (on_next (contents f) s).cells)
-are_by f seen n bytes (More c after) is ih lt next bare =
-    let wide = is.wide c in
-    let len = ap length next.0.parts ∙ length-append (f.cell c) after in
-    let left : after ≡ drop (seen c).width bytes = sym (ap (drop (seen c).width) next.0.parts ∙ drop_at (f.cell c) after (seen c).width (sym wide)) in (
-      omega (arith, is.four c, wide),
-      omega (arith, len, wide),
-      sym (ap (seen_in f seen) left),
-      subst (λ (b : List ℕ). HasCells (seen_in f seen) b (seen_in f seen after)) left (ih after next.0.rest_fits (omega (arith, len, next.1.some)) bare),
-    )
+are_by f seen n bytes (More c after) is ih lt next bare = search (arith, length-append, drop_at)
 are_by f seen n bytes (NoMore e) is ih lt next bare = next.0 ∙ ap f.end_bytes bare ∙ is.none
 
 are_within : {C E : Type 0} (f : Format C E) (seen : C → Cell) (n : ℕ) (bytes : List ℕ) → IsSeen f seen → IsBytes bytes → length bytes < n → (contents f bytes).end ≡ f.none → AreCells (seen_in f seen) bytes

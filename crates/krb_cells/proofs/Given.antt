@@ -11,25 +11,16 @@ use Rattle.krb_cells.specs.Cells.{GivesCell}
 
 -- ---- places of cells
 
-place_ge : (at : ℕ) (cs : List Cell) (p : ℕ) → is_place_from at cs p ≡ true → at ≤ p
-place_ge at [] p h = elim (eqb_tells at p) [
-  | inl y ↦ omega (arith, y.1)
-  | inr n ↦ let no = n.0 in absurd (cc (no, h))
-]
-place_ge at (c ∷ cs) p h = elim (eqb_tells at p) [
-  | inl y ↦ omega (arith, y.1)
-  | inr n ↦ let no = n.0 in let ge = place_ge (at + c.width) cs p (rw no at h) in omega (arith, ge)
-]
+pub place_ge : (at : ℕ) (cs : List Cell) (p : ℕ) → is_place_from at cs p ≡ true → at ≤ p
+place_ge at [] p h = search (arith, eqb_tells)
+place_ge at (c ∷ cs) p h = grind (arith, nat_tests, place_ge (at + c.width) cs p)
 
 place_past : (at : ℕ) (c : Cell) (cs : List Cell) (p : ℕ) → at < p → is_place_from at (c ∷ cs) p ≡ is_place_from (at + c.width) cs p
 place_past at c cs p lt = let no : eqb at p ≡ false = ne_eqb at p (λ e. omega (arith, lt, e)) in rw no refl
 
 -- no place is within a cell
 not_within : (at : ℕ) (c : Cell) (cs : List Cell) (p : ℕ) → is_place_from at (c ∷ cs) p ≡ true → p < at + c.width → p ≡ at
-not_within at c cs p h lt = elim (eqb_tells at p) [
-  | inl y ↦ sym y.1
-  | inr n ↦ let no = n.0 in let ge = place_ge (at + c.width) cs p (rw no at h) in absurd (omega (arith, ge, lt))
-]
+not_within at c cs p h lt = search (arith, eqb_tells, place_ge)
 
 goes_past : (at : ℕ) (c : Cell) (cs : List Cell) (to : ℕ) (ds : List Cell) (p : ℕ) → at < p → new_place at (c ∷ cs) to ds p ≡ new_place (at + c.width) cs (to + new_width (is_some c.live) ds) (new_after (is_some c.live) ds) p
 goes_past at c cs to ds p lt = let no : nat_le p at ≡ false = grind (arith, nat_tests) in rw no refl
@@ -58,9 +49,7 @@ put_four xs put at end n wrote is_end = wrote ∙ ap (λ (m : ℕ). splice xs at
 
 -- the number is there
 put_here : (xs : List ℕ) (at n : ℕ) → at + 4 ≤ length xs → take 4 (drop at (splice xs at (at + 4) (digits Big w32 n))) ≡ digits Big w32 n
-put_here xs at n le =
-    let d = digits Big w32 n in
-    ap (take 4) (drop_at (take at xs) (d ++ drop (at + 4) xs) at (omega (arith, length-take at xs))) ∙ take_at d (drop (at + 4) xs) 4 ((wide32 Big).len n)
+put_here xs at n le = search (arith, drop_at, length-take, take_at, wide32)
 
 -- the bytes before it are unchanged
 put_before : (xs d : List ℕ) (at p : ℕ) → at ≤ length xs → p + 4 ≤ at → take 4 (drop p (splice xs at (at + 4) d)) ≡ take 4 (drop p xs)
@@ -93,15 +82,7 @@ pub record IsGivenTo (all news : List Cell) (first start : ℕ) (image : List �
   pub encoded : (p : ℕ) → is_place_from first all p ≡ true → p < at → take 4 (drop p image) ≡ digits Big w32 (new_place first all start news p)
 
 given_first : (cs ds : List Cell) (first start : ℕ) (image : List ℕ) → first ≤ length image → IsGivenTo cs ds first start image cs ds first start
-given_first cs ds first start image le = record {
-  within = le;
-  end = refl;
-  last = refl;
-  left = λ p le. refl;
-  same = λ p le. refl;
-  before = λ p h lt. let ge = place_ge first cs p h in absurd (omega (arith, ge, lt));
-  encoded = λ p h lt. let ge = place_ge first cs p h in absurd (omega (arith, ge, lt));
-}
+given_first cs ds first start image le = search (arith, place_ge)
 
 -- one more cell
 given_next : (all news : List Cell) (first start : ℕ) (image put : List ℕ) (c : Cell) (cs ds : List Cell) (at to : ℕ) → IsGivenTo all news first start image (c ∷ cs) ds at to → 4 ≤ c.width → at + c.width ≤ length image
@@ -131,25 +112,13 @@ given_next all news first start image put c cs ds at to g wide room wrote len =
 
 -- for a live cell, the first new cell is passed
 pub next_passed : (old new : Store) (o : Option (ℕ × CellView)) → GivesCell old o new → (new.first ≡ old.first + new_width true old.cells) × (new.cells ≡ new_after true old.cells)
-next_passed old new None g =
-    let width : new_width true old.cells ≡ 0 = rw g.0 refl in
-    let left : new_after true old.cells ≡ [] = rw g.0 refl in
-    (ap (λ (s : Store). s.first) g.1 ∙ omega (arith, width), ap (λ (s : Store). s.cells) g.1 ∙ g.0 ∙ sym left)
-next_passed old new (Some x) g =
-    let width : new_width true old.cells ≡ x.1.width = rw g.cells refl in
-    let left : new_after true old.cells ≡ new.cells = rw g.cells refl in
-    (omega (arith, width, g.place, g.next), sym left)
+next_passed old new None g = search arith
+next_passed old new (Some x) g = search arith
 
 -- a cell is passed
 pub passes : (cells : List ℕ → List Cell) (bytes : List ℕ) (c : Cell) (old new : Store) (live : Bool) → cells bytes ≡ c ∷ cells (drop c.width bytes) → is_some c.live ≡ live → (new.first ≡ old.first + new_width live old.cells) × (new.cells ≡ new_after live old.cells)
     → Passes cells bytes old c.width new
-passes cells bytes c old new live parts is next = record {
-  cell = c;
-  is_width = refl;
-  parts = parts;
-  first = rw is next.0;
-  left = rw is next.1;
-}
+passes cells bytes c old new live parts is next = search arith
 
 pub copied_some : (o : Option (Bor (List ℕ))) → is_some (option_copied o) ≡ is_some o
 copied_some (Some b) = refl
@@ -193,12 +162,7 @@ is_at_place cells image at end c ahead within are first =
     let sum : end - at ≡ c.width + (end - (at + c.width)) = omega (arith, room) in
     let same : drop c.width bytes ≡ between (at + c.width) end image =
     ap (λ (n : ℕ). drop c.width (take n (drop at image))) sum ∙ drop-take c.width (end - (at + c.width)) (drop at image) ∙ ap (take (end - (at + c.width))) (drop-drop c.width at image) in
-    record {
-      wide = has.0;
-      room = room;
-      parts = first ∙ ap (λ (b : List ℕ). c ∷ cells b) same;
-      others = subst (AreCells cells) same has.3;
-    }
+    search (arith, has, room, same)
 
 -- then the cell at the place gets where it goes
 pub one_given : (cells : List ℕ → List Cell) (all : List Cell) (news : Store) (first end : ℕ) (image put bytes : List ℕ) (old left : Store) (at to w n next : ℕ) → IsGivenIn cells all news first end image old at to → bytes ≡ between at end image → Passes cells bytes old w left
@@ -236,11 +200,4 @@ all_given cells all news first end image bytes left at to i is no_cells =
     let empty : between at end image ≡ [] = subst (HasCells cells (between at end image)) none i.are in
     let here : at ≡ end = omega (arith, ap length empty, length-take (end - at) (drop at image), length-drop at image, i.ahead, i.within) in
     let last : end_from first all ≡ end = g.end ∙ ap (end_from at) none ∙ here in
-    record {
-      given = λ p h lt. record {
-        within = omega (arith, g.before p h (omega (arith, lt, last, here)), here, i.within);
-        bytes = g.encoded p h (omega (arith, lt, last, here));
-      };
-      is_end = sym last;
-      last = sym (g.same end (omega (arith, here)) ∙ ap (λ (xs : List Cell). new_place at xs to left.cells end) none);
-    }
+    search (arith, g, last, here, none)

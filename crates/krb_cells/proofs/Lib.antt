@@ -1,7 +1,6 @@
 pub mod Cited
 pub mod ContentsLemmas
 pub mod Cuts
-pub mod CursorLemmas
 pub mod Formats
 pub mod Given
 pub mod NewPlaces

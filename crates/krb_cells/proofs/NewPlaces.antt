@@ -1,5 +1,5 @@
 -- Where a place goes, computed cell by cell, is where a rewrite carries it.
-use Rattle.krb_cells.proofs.Cited.{◌≡◌, ◌≢◌, ℕ, ◌+◌, ◌^◌, ◌<◌, ◌≤◌, Bool, true, false, cond, List, [], ◌∷◌, length, Option, Some, None, inl, inr, refl, sym, ap, subst, ◌∙◌, arith, nat_le, is_some, AllByRecursion, nat_tests, Cell, Store, end_from, end_of, is_place_from, IsPlace, whole, new_width, new_after, new_place, EncodesAt, AreGiven, HasGiven, GoesBy}
+use Rattle.krb_cells.proofs.Cited.{◌≡◌, ℕ, ◌+◌, ◌^◌, ◌<◌, ◌≤◌, Bool, true, false, cond, List, [], ◌∷◌, length, Option, Some, None, inl, inr, refl, sym, ap, ◌∙◌, arith, nat_le, is_some, AllByRecursion, nat_tests, Cell, Store, end_from, end_of, IsPlace, whole, new_width, new_after, new_place, EncodesAt, AreGiven, given_at, map, take-append-drop, wide32, number_again}
 use Rattle.std.proofs.lemmas.Bool.{cases_lt}
 use Rattle.krb_walk.specs.Ranks.{nth_or, carry, Rewrites}
 use Rattle.krb_walk.proofs.Stops.{end_from-ge}
@@ -32,10 +32,7 @@ at_or_after cs ds at to p sound live le =
     ap (nth_or (end_from to ds) (lives to ds)) none ∙ first_of to ds live
 
 goes_by : (cs ds : List Cell) (c : Cell) (at to p n : ℕ) → (p ≤ at → n ≡ to) → (at < p → n ≡ new_place (at + c.width) cs (to + new_width (is_some c.live) ds) (new_after (is_some c.live) ds) p) → new_place at (c ∷ cs) to ds p ≡ n
-goes_by cs ds c at to p n here later = elim (cases_lt at p) [
-  | inl lt ↦ let no : nat_le p at ≡ false = grind (arith, nat_tests) in rw no (sym (later lt))
-  | inr le ↦ let yes : nat_le p at ≡ true = grind (arith, nat_tests) in rw yes (sym (here le))
-]
+goes_by cs ds c at to p n here later = search (arith, cases_lt)
 
 -- where a place goes among these cells is given by rank
 abbrev AreEncoded : ℕ → List Cell → ℕ → Type 0
@@ -45,9 +42,7 @@ after_live : (cs ds : List Cell) (at w to v p : ℕ) (bytes : List ℕ) (live : 
     → length (lives to (record { width = v; live = live } ∷ ds)) ≡ length (lives at (record { width = w; live = Some bytes } ∷ cs)) → AreEncoded (at + w) cs p
     → by_rank at (record { width = w; live = Some bytes } ∷ cs) to (record { width = v; live = live } ∷ ds) p ≡ new_place (at + w) cs (to + v) ds p
 after_live cs ds at w to v p bytes None lt some lives_on many encoded = cc
-after_live cs ds at w to v p bytes (Some new) lt some lives_on many encoded =
-    ap (nth_or (end_from (to + v) ds) (to ∷ lives (to + v) ds)) (below_some p at (lives (at + w) cs) lt)
-    ∙ sym (encoded (to + v) ds lives_on (let same : length (lives (to + v) ds) ≡ length (lives (at + w) cs) = omega (arith, many) in same))
+after_live cs ds at w to v p bytes (Some new) lt some lives_on many encoded = search (arith, lives, below_some)
 
 after_cell : (cs ds : List Cell) (at w to p : ℕ) (live : Option (List ℕ)) → at < p → AreLive ds → length (lives to ds) ≡ length (lives at (record { width = w; live = live } ∷ cs)) → AreEncoded (at + w) cs p
     → by_rank at (record { width = w; live = live } ∷ cs) to ds p ≡ new_place (at + w) cs (to + new_width (is_some live) ds) (new_after (is_some live) ds) p
@@ -57,8 +52,7 @@ after_cell cs (d ∷ ds) at w to p (Some bytes) lt lives_on many encoded = after
 
 goes_to : (cs : List Cell) (at p : ℕ) → AreSound cs → AreEncoded at cs p
 goes_to [] at p sound to ds live many = sym (first_of to ds live)
-goes_to (c ∷ cs) at p sound to ds live many = goes_by cs ds c at to p (by_rank at (c ∷ cs) to ds p) (λ le. at_or_after (c ∷ cs) ds at to p sound live le)
-    (λ lt. after_cell cs ds at c.width to p c.live lt live many (goes_to cs (at + c.width) p sound.1))
+goes_to (c ∷ cs) at p sound to ds live many = search (arith, goes_by, at_or_after, after_cell, goes_to cs (at + c.width) p sound.1)
 
 carry_is : (cs : List Cell) (new : Store) (first p : ℕ) → AreSound cs → Rewrites (whole first cs) new → new_place first cs new.first new.cells p ≡ carry (whole first cs) new p
 carry_is cs new first p sound r = goes_to cs first p sound new.first new.cells r.all_live r.as_many
@@ -70,34 +64,30 @@ one_of false m n end x y = y
 -- a place goes no further than the new end
 goes_within : (cs ds : List Cell) (at to p : ℕ) → new_place at cs to ds p ≤ end_from to ds
 goes_within [] ds at to p = end_from-ge to ds
-goes_within (c ∷ cs) ds at to p =
-    one_of (nat_le p at) to (new_place (at + c.width) cs (to + new_width (is_some c.live) ds) (new_after (is_some c.live) ds) p) _ (end_from-ge to ds)
-    (omega (arith, goes_within cs (new_after (is_some c.live) ds) (at + c.width) (to + new_width (is_some c.live) ds) p, end_after (is_some c.live) to ds))
+goes_within (c ∷ cs) ds at to p = search (arith, one_of, end_from-ge, end_after, goes_within cs (new_after (is_some c.live) ds) (at + c.width) (to + new_width (is_some c.live) ds) p)
 
 -- ---- cursors
 
-place_before : (at : ℕ) (cs : List Cell) (p end : ℕ) → is_place_from at cs p ≡ true → end ≡ end_from at cs → p ≢ end → p < end
-place_before at cs p end h is ne = elim (cases_lt p end) [
-  | inl lt ↦ lt
-  | inr le ↦ absurd (ne (omega (arith, le, is, place_in at cs p h)))
-]
+-- the four bytes at a place are read
+pub reads_place : (image : List ℕ) (p n last end : ℕ) → EncodesAt image p n → n < 2 ^ 32 → p < end → given_at image end last p ≡ n
+reads_place image p n last end e small lt = grind (arith, nat_tests, wide32, take-append-drop, number_again)
 
--- each cursor is the end, or has four bytes at it
-pub have_given : (image : List ℕ) (cs : List Cell) (new : Store) (first end : ℕ) (cursors : List ℕ) → AreGiven image first cs new.first new.cells → end ≡ end_from first cs → AllByRecursion (IsPlace (whole first cs)) cursors → AllByRecursion (HasGiven image end) cursors
-have_given image cs new first end [] given is h = tt
-have_given image cs new first end (p ∷ ps) given is h =
-    (λ ne. (given p h.0 (let lt = place_before first cs p end h.0 is ne in omega (arith, lt, is))).within, have_given image cs new first end ps given is h.1)
+-- a place goes where a rewrite carries it
+pub goes_given : (image : List ℕ) (cs : List Cell) (new : Store) (first end last p : ℕ) → AreGiven image first cs new.first new.cells → end ≡ end_from first cs → last ≡ new_place first cs new.first new.cells end → end_of new ≤ 2 ^ 30
+    → AreSound cs → Rewrites (whole first cs) new → IsPlace (whole first cs) p → given_at image end last p ≡ carry (whole first cs) new p
+goes_given image cs new first end last p given is is_last small sound rewrites here =
+    let carries = carry_is cs new first p sound rewrites in
+    elim (cases_lt p end) [
+      | inl lt ↦ reads_place image p (new_place first cs new.first new.cells p) last end (given p here (omega (arith, lt, is))) (omega (arith, goes_within cs new.cells first new.first p, small)) lt ∙ carries
+      | inr ge ↦
+          let same : p ≡ end = omega (arith, ge, is, place_in first cs p here) in
+          let no : nat_le end p ≡ true = grind (arith, nat_tests) in
+          rw no (is_last ∙ ap (new_place first cs new.first new.cells) (sym same) ∙ carries)
+    ]
 
--- each cursor goes where a rewrite carries it
+-- so do all cursors
 pub all_go : (image : List ℕ) (cs : List Cell) (new : Store) (first end last : ℕ) (cursors : List ℕ) → AreGiven image first cs new.first new.cells → end ≡ end_from first cs → last ≡ new_place first cs new.first new.cells end → end_of new ≤ 2 ^ 30
-    → AreSound cs → Rewrites (whole first cs) new → AllByRecursion (IsPlace (whole first cs)) cursors → AllByRecursion (GoesBy image end last (carry (whole first cs) new)) cursors
-all_go image cs new first end last [] given is is_last small sound rewrites h = tt
+    → AreSound cs → Rewrites (whole first cs) new → AllByRecursion (IsPlace (whole first cs)) cursors → map (given_at image end last) cursors ≡ map (carry (whole first cs) new) cursors
+all_go image cs new first end last [] given is is_last small sound rewrites h = refl
 all_go image cs new first end last (p ∷ ps) given is is_last small sound rewrites h =
-    let carries = carry_is cs new first p sound rewrites in (
-      record {
-        small = omega (arith, goes_within cs new.cells first new.first p, carries, small);
-        ends = λ e. is_last ∙ ap (new_place first cs new.first new.cells) (sym e) ∙ carries;
-        encoded = λ ne. subst (EncodesAt image p) carries (given p h.0 (let lt = place_before first cs p end h.0 is ne in omega (arith, lt, is)));
-      },
-      all_go image cs new first end last ps given is is_last small sound rewrites h.1,
-    )
+    search (arith, goes_given, all_go image cs new first end last ps given is is_last small sound rewrites h.1)

@@ -1,8 +1,10 @@
 -- Where a rewrite carries the cursors of a store in an image that is replaced.
-use Rattle.std.specs.Prelude.{◌≡◌, ◌≢◌, ℕ, ◌+◌, ◌-◌, ◌^◌, ◌<◌, ◌≤◌, List, [], ◌∷◌, length, take, drop, Bool, true, false, None, nat_le, is_some, if◌then◌else◌}
+use Rattle.std.specs.Prelude.{◌≡◌, ℕ, ◌+◌, ◌-◌, ◌<◌, ◌≤◌, List, [], ◌∷◌, length, take, drop, Bool, true, false, None, nat_le, is_some, option_map, if◌then◌else◌}
 use Rattle.std.specs.Int.{w32}
+use Rattle.std.specs.Option.{unwrap_or}
 use Rattle.krb_wire.specs.declared.format.Order.TheVariants.{Big}
 use Rattle.krb_wire.specs.Spelling.{digits}
+use Rattle.krb_wire.specs.Reading.{number_at}
 use Rattle.krb_walk.specs.Store.{Cell, Store, end_from, is_place_from}
 
 -- cells from a place on, with no fault after them
@@ -53,12 +55,6 @@ pub record EncodesAt (image : List ℕ) (p n : ℕ) : Type 0 where
 abbrev pub AreGiven : List ℕ → ℕ → List Cell → ℕ → List Cell → Type 0
 AreGiven image at cs to ds = (p : ℕ) → is_place_from at cs p ≡ true → p < end_from at cs → EncodesAt image p (new_place at cs to ds p)
 
--- a place is the end, or has four bytes at it
-abbrev pub HasGiven : List ℕ → ℕ → ℕ → Type 0
-HasGiven image end p = p ≢ end → p + 4 ≤ length image
-
--- the four bytes at a place encode where it goes, and the end goes to the last place
-pub record GoesBy (image : List ℕ) (end last : ℕ) (go : ℕ → ℕ) (p : ℕ) : Type 0 where
-  pub small : go p < 2 ^ 32
-  pub ends : p ≡ end → last ≡ go p
-  pub encoded : p ≢ end → EncodesAt image p (go p)
+-- where a place goes: the number that its four bytes encode, or the last place if it is the end
+abbrev pub given_at : List ℕ → ℕ → ℕ → ℕ → ℕ
+given_at image end last p = if nat_le end p then last else unwrap_or (option_map (λ x. x.0) (number_at Big w32 (drop p image))) last

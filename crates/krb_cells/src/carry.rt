@@ -3,7 +3,7 @@
 //! The old image is no longer needed then. So the first four bytes of each old cell are overwritten with the place that
 //! the cell goes to, and each cursor is looked up there: one pass over the cells, one read per cursor, no memory.
 
-ghost use Rattle.std.specs.Prelude.{◌≡◌, ◌≤◌, ◌<◌, ◌-◌, ◌+◌, ℕ, [], length, take, drop, map, IfSome, IfNone};
+ghost use Rattle.std.specs.Prelude.{◌≡◌, ◌≤◌, ◌<◌, ◌-◌, ◌+◌, [], length, take, drop, map, IfSome, IfNone};
 ghost use Rattle.std.specs.Int.{w32};
 ghost use Rattle.std.specs.List.{AllByRecursion, splice};
 ghost use Rattle.krb_wire.specs.declared.format.Order.TheVariants.{Big};
@@ -11,7 +11,7 @@ ghost use Rattle.krb_wire.specs.Spelling.{digits};
 ghost use Rattle.krb_walk.specs.Store.{IsPlace, end_from};
 ghost use Rattle.krb_walk.specs.Ranks.{carry as carry_of, Rewrites};
 ghost use Rattle.krb_cells.specs.Cells.{AreCells};
-ghost use Rattle.krb_cells.specs.Carry.{between, store_in, new_place, Passes, AreGiven, HasGiven, GoesBy};
+ghost use Rattle.krb_cells.specs.Carry.{between, store_in, new_place, Passes, AreGiven, given_at};
 
 use crate::cells::{CellFormat, Cells};
 use krb_wire::{Order, Pen, split_u32, tail};
@@ -79,10 +79,10 @@ fn give_places<F: CellFormat, G: CellFormat>(
 
 // Returns where a place goes: the place written in its cell, or `last` if it is the end.
 fn place_given(image: &[u8], end: usize, last: u32, place: u32) -> u32
-    requires { HasGiven image.now end place }
-    ensures { (go : ℕ → ℕ) → GoesBy image.now end last go place → result ≡ go place }
+    requires { end ≤ length image.now }
+    ensures { result ≡ given_at image.now end last place }
 {
-    if place as usize == end {
+    if place as usize >= end {
         return last;
     }
     match split_u32(Order::Big, tail(image, place as usize)) {
@@ -93,8 +93,8 @@ fn place_given(image: &[u8], end: usize, last: u32, place: u32) -> u32
 
 // Carries cursors to the places written in their cells.
 fn carry_all(image: &[u8], end: usize, last: u32, cursors: &mut [u32])
-    requires { AllByRecursion (HasGiven image.now end) cursors.old }
-    ensures { (go : ℕ → ℕ) → AllByRecursion (GoesBy image.now end last go) cursors.old → cursors.new ≡ map go cursors.old }
+    requires { end ≤ length image.now }
+    ensures { cursors.new ≡ map (given_at image.now end last) cursors.old }
 {
     for cursor in cursors.iter_mut() {
         *cursor = place_given(image, end, last, *cursor);
