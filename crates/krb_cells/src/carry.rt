@@ -16,8 +16,8 @@ ghost use Rattle.krb_cells.specs.Carry.{between, store_in, new_place, Passes, Ar
 use crate::cells::{CellFormat, Cells};
 use krb_wire::{Order, Pen, split_u32, tail};
 
-// Returns the bytes from `first` up to `end`.
-fn part(bytes: &[u8], first: usize, end: usize) -> &[u8]
+/// Returns the bytes from `first` up to `end`.
+pub fn part(bytes: &[u8], first: usize, end: usize) -> &[u8]
     requires ahead { first ≤ end }
     requires within { end ≤ length bytes.now }
     ensures { result.now ≡ between first end bytes.now }

@@ -6,5 +6,5 @@
 mod carry;
 mod cells;
 
-pub use carry::carry_to;
+pub use carry::{carry_to, part};
 pub use cells::{CellFormat, CellView, Cells};

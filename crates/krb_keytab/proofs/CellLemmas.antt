@@ -133,10 +133,7 @@ unfolding contents
 contents_spelled f bytes fits =
     let k = contents f bytes in
     let s = spelled_of (keytab_format f) bytes (keytab_is f) fits in
-    record {
-      parts = s.parts;
-      sound = record { cells = sound_cells f k.cells (end_bytes (order_of f) k.end) s.sound.cells (subst IsBytes s.parts fits); end = sound_end f k.end s.sound.end };
-    }
+    search (arith, sound_cells, IsBytes, sound_end, s, k)
 
 -- sound cells that are a prefix are the first cells: so the list is the longest one
 pub contents_behind : (f : KtFormat) (cs : List Cell) (rest : List ℕ) → AllByRecursion (IsCell f) cs → IsBytes (flat_map (cell (order_of f)) cs ++ rest) → contents f (flat_map (cell (order_of f)) cs ++ rest) ≡ behind cs (contents f rest)

@@ -1,5 +1,5 @@
 -- What is at a place, read whole.
-use Rattle.krb_keytab.proofs.Cited.{◌≡◌, ℕ, ◌+◌, ◌≤◌, List, ◌∷◌, length, take, drop, ap, ◌∙◌, arith, length-take, length-drop, drop-drop, KtFormat, IsBytes, IsBytes-drop, Length, Ending, size_of, Contents, cell_in, next, contents, size, ends, IsPassed, EndsThere, end_place, NoMore, More}
+use Rattle.krb_keytab.proofs.Cited.{◌≡◌, ℕ, ◌+◌, ◌≤◌, List, ◌∷◌, length, take, drop, ap, ◌∙◌, arith, length-take, length-drop, drop-drop, KtFormat, IsBytes, IsBytes-drop, Length, Ending, size_of, Contents, cell_in, next, contents, size, ends, IsPassed, EndsThere, NoMore, More}
 use Rattle.krb_keytab.specs.declared.length.Length.TheVariants as says
 use Rattle.krb_keytab.proofs.CellLemmas.{contents_next}
 
@@ -20,10 +20,4 @@ passed f image at l fits le within is =
     let cells : (contents f (drop at image)).cells ≡ c ∷ (contents f (drop (at + (4 + n)) image)).cells =
     ap (λ (k : Contents). k.cells) all ∙ ap (λ (x : List ℕ). c ∷ (contents f x).cells) rest in
     let len : size c ≡ n = size_in l b ∙ omega (arith, within, length-take n (drop 4 (drop at image)), length-drop 4 (drop at image)) in
-    record {
-      ahead = omega arith;
-      within = omega (arith, le, within, length-drop at image);
-      place = ap (end_place at) cells ∙ ap (λ (m : ℕ). end_place (at + (4 + m)) (contents f (drop (at + (4 + n)) image)).cells) len;
-      count = ap length cells ∙ omega arith;
-      end = ap (λ (k : Contents). k.end) all ∙ ap (λ (x : List ℕ). (contents f x).end) rest;
-    }
+    search (arith, length-drop, cells, n, len, all, rest)

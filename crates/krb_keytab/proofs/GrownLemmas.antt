@@ -43,13 +43,7 @@ appended_index k slots t u bytes i grown small =
     replicate-append-replicate 1 (2 ^ u.height - (n + 1)) 0 ∙ ap (λ (m : ℕ). replicate {A = ℕ} m 0) (omega (arith, grown.height.0)) in
     let both : replicate {A = ℕ} (2 ^ t.height - n) 0 ++ replicate {A = ℕ} (2 ^ u.height - 2 ^ t.height) 0 ≡ replicate {A = ℕ} (2 ^ u.height - n) 0 =
     replicate-append-replicate (2 ^ t.height - n) (2 ^ u.height - 2 ^ t.height) 0 ∙ ap (λ (m : ℕ). replicate {A = ℕ} m 0) (omega (arith, pow_mono {i = t.height} {j = u.height} grown.higher, i.height.0)) in
-    record {
-      table = ap (λ (y : List Slot). y ++ (s ∷ [])) i.table ∙ sym (slots_last 2 k.contents.cells (Live bytes));
-      sizes = grown.sizes ∙ ap (λ (y : List ℕ). y ++ replicate {A = ℕ} (2 ^ u.height - 2 ^ t.height) 0) i.sizes
-          ∙ append_assoc (map free_size slots) (replicate {A = ℕ} (2 ^ t.height - n) 0) (replicate {A = ℕ} (2 ^ u.height - 2 ^ t.height) 0) ∙ ap (λ (y : List ℕ). map free_size slots ++ y) both
-          ∙ sym (ap (λ (m : ℕ). map free_size (slots ++ (s ∷ [])) ++ replicate {A = ℕ} (2 ^ u.height - m) 0) len ∙ ap (λ (y : List ℕ). y ++ zeros) more ∙ append_assoc (map free_size slots) (0 ∷ []) zeros ∙ ap (λ (y : List ℕ). map free_size slots ++ y) one);
-      height = rw len grown.height;
-    }
+    search (arith, slots_last, append_assoc, s, n, both, len, zeros, more, one)
 
 -- ---- room
 
@@ -79,11 +73,7 @@ stays_grown t n least lt = search (arith, append-nil, same_height)
 pub doubles_grown : (t u : SizeTree) (n : ℕ) → n ≡ 2 ^ t.height → length t.sizes ≡ 2 ^ t.height → u.sizes ≡ t.sizes ++ replicate (length t.sizes) 0 → u.height ≡ t.height + 1 → IsGrown n t u
 doubles_grown t u n full len sizes height =
     let p : 2 ^ u.height ≡ 2 ^ t.height * 2 = ap (λ (m : ℕ). 2 ^ m) (omega (arith, height)) ∙ pow-suc 2 t.height in
-    record {
-      sizes = sizes ∙ ap (λ (m : ℕ). t.sizes ++ replicate {A = ℕ} m 0) (omega (arith, len, p));
-      height = rw height (grown_height n t.height full);
-      higher = omega (arith, height);
-    }
+    search (arith, grown_height, p)
 
 -- table and tree after a record is added after the cells
 pub appended_kept : (k new : KeytabState) (x : List ℕ) (slots items : List Slot) (t mid u : SizeTree) (place need count room last more n : ℕ) → IsKept k slots count room t → fault_of (store_of k) ≡ None

@@ -1,5 +1,5 @@
 -- An image after changes to its cells.
-use Rattle.krb_keytab.proofs.Cited.{◌≡◌, ℕ, suc, ◌+◌, ◌-◌, ◌^◌, ◌<◌, ◌≤◌, true, List, [], ◌∷◌, ◌++◌, length, drop, replicate, Option, Some, None, refl, sym, ap, subst, ◌∙◌, arith, option_map, IsSome, IfSome, ◌==◌, if◌then◌else◌, splice, KtFormat, order_of, IsBytes, IsBytes-drop, some_is, CellsEnd, Hole, Cell, Live, Free, End, Bare, Contents, cell, next, contents, IsCell, size, live_bytes, end_from-ge, store_of_image, end_place, IsKnownEnd, IsChanged, PlacedCell, placed_cells, replaced_at, zero_hole, is_hole, first_hole, with_zeros, record_in, hole_of, hole_from, IsRecord, length-append, length-map, length-replicate}
+use Rattle.krb_keytab.proofs.Cited.{◌≡◌, ℕ, suc, ◌+◌, ◌-◌, ◌^◌, ◌<◌, ◌≤◌, true, List, [], ◌∷◌, ◌++◌, length, drop, replicate, Option, Some, None, refl, sym, ap, ◌∙◌, arith, option_map, IsSome, IfSome, ◌==◌, if◌then◌else◌, splice, KtFormat, order_of, IsBytes, IsBytes-drop, some_is, CellsEnd, Hole, Cell, Live, Free, End, Bare, Contents, cell, next, contents, IsCell, size, live_bytes, end_from-ge, store_of_image, end_place, IsKnownEnd, IsChanged, PlacedCell, placed_cells, replaced_at, zero_hole, is_hole, first_hole, with_zeros, record_in, hole_of, hole_from, IsRecord, length-append, length-map, length-replicate}
 use Rattle.krb_cells.specs.Contents.{contents as contents_of, first_cells}
 use Rattle.krb_keytab.proofs.CellLemmas.{contents_spelled, sound_size}
 use Rattle.krb_keytab.proofs.Cuts.{end_place-append}
@@ -31,10 +31,7 @@ is_in : (f : KtFormat) (image : List ℕ) (p : ℕ) (c : Cell) (end : CellsEnd) 
 is_in f image p c end fits known s =
     let cs = (contents f (drop 2 image)).cells in
     let sound = (contents_spelled f (drop 2 image) (IsBytes-drop 2 image fits)).sound in
-    record {
-      room = omega (arith, ends_within cs p c s, known.place, known.within);
-      sound = is_at_sound f cs 2 p c sound.cells s;
-    }
+    search (arith, ends_within, is_at_sound, cs, sound)
 
 pub live_in : (f : KtFormat) (image : List ℕ) (p : ℕ) (b : List ℕ) (end : CellsEnd) → IsBytes image → IsKnownEnd f image end → Some b ≡ live_bytes (store_of_image f image) p → IsIn f image p (Live b)
 live_in f image p b end fits known live = is_in f image p (Live b) end fits known (live_is_at (contents f (drop 2 image)).cells 2 p b (sym live))
@@ -52,11 +49,7 @@ changed_is f image image' change old p end long fits fits' known s same sound wr
     let before : k ≡ record { cells = s.front ++ (old ∷ s.back); end = k.end } = ap (λ (cs : List Cell). record { cells = cs; end = k.end }) s.parts in
     let r : IsReplaced f image s.front s.back old (change old) k.end p = record { long = long; before = before; place = s.place; same_size = same; sound = sound } in
     let done = replaced f image image' s.front s.back old (change old) k.end p end r fits fits' known written in
-    record {
-      head = done.head;
-      contents = done.contents ∙ ap (λ (cs : List Cell). record { cells = cs; end = k.end }) (sym (replaced_cells change k.cells p old s));
-      known = done.known;
-    }
+    search (arith, replaced_cells, done, k)
 
 -- a live cell becomes a hole of zeros
 pub freed_is : (f : KtFormat) (image image' b : List ℕ) (p n : ℕ) (end : CellsEnd) → 2 ≤ length image → 0 < n → n ≤ 2 ^ 31 → IsBytes image → IsBytes image' → IsKnownEnd f image end
@@ -90,14 +83,7 @@ hole_by f image n h end (Some x) fits known is e =
     let is_size : size x.1 ≡ h.size = ap (λ (y : Hole). y.size) same in
     let at = hole_is_at (contents f (drop 2 image)).cells 2 n x.0 x.1 is in
     let inside = is_in f image x.0 x.1 end fits known at.is_at in
-    record {
-      cell = x.1;
-      is_at = subst (λ (p : ℕ). IsAt (contents f (drop 2 image)).cells 2 p x.1) place at.is_at;
-      size_is = is_size;
-      large = omega (arith, hole_large n x.1 at.large);
-      some = omega (arith, sound_size f x.1 inside.sound);
-      room = omega (arith, inside.room);
-    }
+    search (arith, hole_large, sound_size, place, at, is_size, inside)
 
 pub hole_in : (f : KtFormat) (image : List ℕ) (n : ℕ) (h : Hole) (end : CellsEnd) → IsBytes image → IsKnownEnd f image end → hole_from 2 n (contents f (drop 2 image)).cells ≡ Some h → HoleIn f image n h
 hole_in f image n h end fits known e = hole_by f image n h end (first_hole 2 n (contents f (drop 2 image)).cells) fits known refl e

@@ -1,5 +1,5 @@
 -- The slot of one cell among others, and the live cell with a number.
-use Rattle.krb_keytab.proofs.Cited.{◌≡◌, ◌≢◌, ℕ, zero, suc, ◌+◌, ◌<◌, ◌≤◌, true, false, List, [], ◌∷◌, ◌++◌, length, map, take, drop, get_or, Option, None, refl, sym, ap, subst, ◌∙◌, arith, inl, inr, length-append, IsSome, AllByRecursion, set, cases_lt, take_at, take_all, append-nil, KtFormat, is_some_has, bytes_from, Cell, Live, Free, IsCell, IsSound, KeytabState, store_of, store_cell, end_place, Slot, is_free, slots_from, slot_of, places, IsRank, slot_at, IsLiveNumber, nat_tests, set-append_seam, get_or-append_seam, drop-cons, All-from_recursion, bytes_ahead, live_is_place}
+use Rattle.krb_keytab.proofs.Cited.{◌≡◌, ◌≢◌, ℕ, zero, suc, ◌+◌, ◌<◌, ◌≤◌, true, false, List, [], ◌∷◌, ◌++◌, length, map, take, drop, get_or, Option, None, refl, sym, ap, subst, ◌∙◌, arith, length-append, IsSome, AllByRecursion, set, cases_lt, take_at, take_all, append-nil, KtFormat, is_some_has, bytes_from, Cell, Live, Free, IsCell, IsSound, KeytabState, store_of, store_cell, end_place, Slot, is_free, slots_from, slot_of, places, IsRank, slot_at, IsLiveNumber, nat_tests, set-append_seam, get_or-append_seam, drop-cons, All-from_recursion, bytes_ahead, live_is_place}
 use Rattle.krb_walk.specs.Store.{Cell as StoreCell, live_bytes}
 use Rattle.krb_keytab.specs.Cells as cells
 use Rattle.krb_keytab.proofs.Cuts.{live_there, store_sound}
@@ -27,13 +27,7 @@ number_is cs front rest i parts lt same =
     let is : take n cs ≡ front = ap (take n) parts ∙ take_at front rest n refl in
     let ends : end_place 2 (take n cs) ≡ end_place 2 (take i cs) = ap (end_place 2) is ∙ same in
     let within : n ≤ length cs = omega (arith, ap length parts, length-append front rest) in
-    elim (cases_lt n i) [
-      | inl less ↦ absurd (omega (arith, ends, end_rises 2 cs n i less (omega arith)))
-      | inr ge ↦ elim (cases_lt i n) [
-        | inl more ↦ absurd (omega (arith, ends, end_rises 2 cs i n more within))
-        | inr le ↦ omega (arith, ge, le)
-      ]
-    ]
+    search (arith, cases_lt, end_rises, n, ends, within)
 
 -- ---- the live cell at a place
 

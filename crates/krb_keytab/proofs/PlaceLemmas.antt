@@ -1,6 +1,7 @@
 -- The places of cells in a table.
-use Rattle.krb_keytab.proofs.Cited.{◌≡◌, ℕ, zero, suc, ◌+◌, ◌<◌, ◌≤◌, true, false, eqb, List, [], ◌∷◌, ◌++◌, length, map, take, drop, refl, sym, ap, ◌∙◌, arith, inl, inr, slice_index, ◌==◌, eqb-true, ne_eqb, cases_Bool, eqb_tells, length-map, take-append-drop, Cell, size, end_from-ge, store_cell, end_place, Slot, places, slots_from, IsRising, IsRank, nat_tests}
-use Rattle.krb_walk.specs.Store.{Cell as StoreCell, is_place_from}
+use Rattle.krb_keytab.proofs.Cited.{◌≡◌, ℕ, zero, suc, ◌+◌, ◌<◌, ◌≤◌, false, eqb, List, [], ◌∷◌, ◌++◌, length, map, take, drop, refl, sym, ap, ◌∙◌, arith, inl, inr, slice_index, ◌==◌, ne_eqb, cases_Bool, eqb_tells, length-map, take-append-drop, Cell, size, end_from-ge, store_cell, end_place, Slot, places, slots_from, IsRising, IsRank}
+use Rattle.krb_walk.specs.Store.{is_place_from}
+use Rattle.krb_cells.proofs.Given.{place_ge}
 
 pub slots_len : (at : ℕ) (cs : List Cell) → length (slots_from at cs) ≡ length cs
 slots_len at [] = refl
@@ -31,11 +32,6 @@ rank_of_rest x p rank xs r = record {
   below = λ i lt. r.below (suc i) (omega arith);
   rest = λ i le lt. r.rest (suc i) (omega arith) (omega arith);
 }
-
--- a place is not before the first
-place_ge : (at : ℕ) (cs : List StoreCell) (p : ℕ) → is_place_from at cs p ≡ true → at ≤ p
-place_ge at [] p h = omega (arith, eqb-true at p h)
-place_ge at (c ∷ cs) p h = grind (arith, nat_tests, place_ge (at + c.width) cs p)
 
 -- a number is a place iff it is that of the cell of its rank, or the end
 pub place_by_rank : (at : ℕ) (cs : List Cell) (p rank : ℕ) → IsRank (places (slots_from at cs)) p rank → is_place_from at (map store_cell cs) p ≡ (end_place at (take rank cs) == p)

@@ -131,12 +131,4 @@ replaced f image image' front back old new e p end r fits fits' known written =
     let last = end_from-ge (p + (4 + size old)) (map store_cell back) in
     let room : p + 4 + size old ≤ length image = omega (arith, stops, last, known.within) in
     let new_len : length (cell o new) ≡ 4 + size old = omega (arith, cell_len o new, r.same_size) in
-    record {
-      head = ap (take 2) bytes ∙ take_at (take 2 image) (spelling o k) 2 two;
-      contents = is;
-      known = known_kept f image image' end known
-          (ap (λ (x : Contents). end_place 2 x.cells) is ∙ behind' ∙ sym (ap (λ (x : Contents). end_place 2 x.cells) r.before ∙ behind))
-          (ap (λ (x : Contents). x.end) is ∙ sym (ap (λ (x : Contents). x.end) r.before))
-          (ap length written ∙ splice-len image (cell o new) p (p + 4 + size old) room (omega (arith, new_len)))
-          (ap (drop end.place) written ∙ splice-behind image (cell o new) p (p + 4 + size old) end.place (omega arith) (omega (arith, new_len)) (omega (arith, stops, last)));
-    }
+    search (arith, take_at, known_kept, splice-len, splice-behind, bytes, o, k, two, is, behind', behind, room, new_len, stops, last)

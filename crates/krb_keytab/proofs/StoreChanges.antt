@@ -1,5 +1,5 @@
 -- An addition to a keytab, and a removal from it, change one cell of its store.
-use Rattle.krb_keytab.proofs.Cited.{◌≡◌, ℕ, ◌+◌, true, List, [], ◌∷◌, map, length, Some, None, Result, Ok, Err, inl, inr, refl, ap, subst, ◌∙◌, arith, IfOk, OnOk, map-append, length-replicate, leb-true, cuts-extends, place_kept, EntryParts, Cell, Live, Free, End, kind_of, KeytabState, store_cell, store_of, entry_at_place, written_form, read_back, IsEntry, replaced_at, zero_hole, is_hole, with_zeros, record_in, with_record_in, with_last, end_after, with_hole, put_result, cut_result, without, Code, keytab_rules, whole_of}
+use Rattle.krb_keytab.proofs.Cited.{◌≡◌, ℕ, true, List, [], ◌∷◌, map, length, Some, None, Result, Ok, Err, inl, inr, refl, ap, subst, ◌∙◌, arith, IfOk, OnOk, map-append, length-replicate, leb-true, cuts-extends, place_kept, EntryParts, Cell, Live, Free, End, kind_of, KeytabState, store_cell, store_of, entry_at_place, written_form, read_back, IsEntry, replaced_at, zero_hole, is_hole, record_in, with_record_in, with_last, end_after, with_hole, put_result, cut_result, without, Code, keytab_rules, whole_of}
 use Rattle.krb_walk.specs.declared.refusal.Refusal.{Refusal}
 use Rattle.krb_walk.specs.declared.event.Event.TheVariants.{Cut}
 use Rattle.krb_walk.specs.Store.{end_of, live_bytes as store_bytes, IsPlace}
@@ -33,14 +33,7 @@ cuts_at : (k : KeytabState) (p : ℕ) (b : List ℕ) → (store_of k).fault ≡ 
 cuts_at k p b whole held =
     let s = live_is_at k.contents.cells 2 p b held in
     let one = replaced_cell k zero_hole p (Live b) s in
-    record {
-      whole = whole;
-      how = record {
-        width = 4 + length b;
-        bytes = b;
-        cell = subst (λ (n : ℕ). OneCell (store_of k) (store_of (with_hole k p)) p (store_cell (Live b)) (record { width = 4 + n; live = None })) (length-replicate {A = ℕ} (length b) 0) one;
-      };
-    }
+    search (arith, length-replicate, one)
 
 pub removal_cuts : (k new : KeytabState) (p : ℕ) (result : Result (Unit {0}) Code) → CutGives (cut_result k p) k result new → OnOk result (Cuts (store_of k) (store_of new) p)
 removal_cuts k new p result a = search (arith, cut_gives, cuts_at, whole_of)
@@ -78,14 +71,7 @@ fills_at k x p (Live b) whole s large = absurd cc
 fills_at k x p (Free b) whole s large =
     let len = padded_len x (length b) (leb-true (length x) (length b) large) in
     let one = replaced_cell k (record_in x) p (Free b) s in
-    record {
-      whole = whole;
-      how = inl (record {
-        width = 4 + length b;
-        bytes = with_zeros x (length b);
-        cell = subst (λ (n : ℕ). OneCell (store_of k) (store_of (with_record_in k x p)) p (store_cell (Free b)) (record { width = 4 + n; live = Some (with_zeros x (length b)) })) len one;
-      });
-    }
+    search (arith, len, one)
 
 appends_at : (k : KeytabState) (x : List ℕ) → (store_of k).fault ≡ None → (store_of (with_last k x)).fault ≡ None → Puts (store_of k) (store_of (with_last k x)) (end_of (store_of k))
 appends_at k x whole still = search (arith, map-append)

@@ -13,7 +13,7 @@ use std::marker::Model;
 /// An iterator over the entries, each with the place of its record, in file order, up to the end or the fault.
 #[derive(Drop)]
 pub struct Entries<'a> {
-    cells: CellViews<'a>,
+    pub(crate) cells: CellViews<'a>,
 }
 
 impl<'a> Model for Entries<'a> {
@@ -41,15 +41,6 @@ impl<'a> CellViews<'a> {
             }
         }
         None
-    }
-}
-
-impl<'a> Entries<'a> {
-    /// Returns an iterator over the entries of these cells.
-    pub(crate) fn of(cells: CellViews<'a>) -> Entries<'a>
-        ensures { result ≡ entries_in cells.entry.format cells.entry.place cells.entry.contents.cells }
-    {
-        Entries { cells }
     }
 }
 

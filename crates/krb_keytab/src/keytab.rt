@@ -6,7 +6,6 @@ mod rewrite;
 ghost use Rattle.std.specs.Prelude.{◌≡◌, ℕ, IsSome, IfOk, IfErr, IfSome, IfNone, Ok, Err, Some, None, ◌<◌, ◌≤◌, ◌-◌, ◌^◌, length, drop, vec_capacity};
 ghost use Rattle.krb_wire.specs.Reading.{Gives};
 ghost use Rattle.krb_walk.specs.Store.{end_of, fault_of, is_place, stop_at, live_bytes, IsPlace, IsSound as IsSoundStore};
-ghost use Rattle.krb_cells.specs.Carry.{between};
 ghost use Rattle.krb_keytab.specs.Entry.{entry_at, Spells};
 ghost use Rattle.krb_keytab.specs.Cells.{contents, IsSound};
 ghost use Rattle.krb_keytab.specs.CellViews.{cells_of};
@@ -21,7 +20,7 @@ use crate::entry::{EntryView, read_entry};
 use crate::image::{CellsEnd, end_of_cells, spelled_of};
 use crate::open::{KtOpenRefused, read_head};
 use crate::put::bytes_fit;
-use krb_cells::Cells;
+use krb_cells::{Cells, part};
 use krb_walk::{Fault, Stop};
 use krb_wire::{KtFormat, Limits, NoMemory, Order};
 use std::alloc::Allocator;
@@ -49,15 +48,6 @@ impl<A: Allocator> Model for Keytab<A> {
 
     ghost invariant = { λ k. IsImage k.format k.limit k.image.items × IsKnownEnd k.format k.image.items k.end
         × (k.count ≡ length (contents k.format (drop 2 k.image.items)).cells) };
-}
-
-// Returns the bytes from `first` up to `end`.
-fn part(image: &[u8], first: usize, end: usize) -> &[u8]
-    requires ahead { first ≤ end }
-    requires within { end ≤ length image.now }
-    ensures { result.now ≡ between first end image.now }
-{
-    &image[first..end]
 }
 
 impl<A: Allocator> Keytab<A> {
@@ -246,7 +236,9 @@ impl<A: Allocator> Keytab<A> {
     pub fn entries(&self) -> Entries<'_>
         ensures { result ≡ placed_entries self.now.state }
     {
-        Entries::of(self.cells())
+        Entries {
+            cells: self.cells(),
+        }
     }
 
     /// Returns the entry of the record at `place`, or `None` if no live cell starts there. Scans from the start; to

@@ -1,6 +1,6 @@
 //! What a look-up has found so far.
 
-ghost use Rattle.std.specs.Prelude.{◌≡◌, ◌==◌, ◌||◌, ◌∷◌, ◌++◌, [], true, false, Bool, List, Some, None, Ok, Err, if◌then◌else◌};
+ghost use Rattle.std.specs.Prelude.{◌≡◌, ◌==◌, ◌||◌, ◌∷◌, ◌++◌, [], true, Bool, List, Some, Ok, if◌then◌else◌};
 ghost use Rattle.krb_wire.specs.Spelling.{Parts};
 ghost use Rattle.krb_wire.specs.Names.{have_same_name};
 ghost use Rattle.krb_keytab.specs.Entry.{EntryParts, entry_at};
@@ -39,17 +39,6 @@ fn is_better(kvno: u32, best: &Option<(u32, EntryView<'_>)>, version: u32) -> bo
     }
 }
 
-// Returns why nothing was found.
-fn missing(named: bool) -> Code
-    ensures { Err result ≡ answer named None }
-{
-    if named {
-        Code::KvnoNotFound
-    } else {
-        Code::NotFound
-    }
-}
-
 /// What was found so far: whether some entry has the name and the enctype, and the entry selected.
 #[derive(Drop)]
 pub struct LookUp<'a> {
@@ -58,20 +47,7 @@ pub struct LookUp<'a> {
 }
 
 impl<'a> LookUp<'a> {
-    /// Returns the look-up before any entry.
-    pub fn new() -> LookUp<'a>
-        ensures named { result.named ≡ false }
-        ensures best { result.best ≡ None }
-    {
-        LookUp {
-            named: false,
-            best: None,
-        }
-    }
-
-    // Considers the next entry that has the name. Not inlined, so that a loop over other names keeps none of this in
-    // registers.
-    #[inline(never)]
+    // Considers the next entry that has the name.
     fn consider_entry(&mut self, kvno: u32, enctype: u16, place: u32, entry: EntryView<'a>)
         ensures { (name : Parts) (xs : List PlacedEntry)
             → have_same_name name entry.entry.principal ≡ true
@@ -88,8 +64,8 @@ impl<'a> LookUp<'a> {
         }
     }
 
-    /// Considers the next record.
-    #[inline(always)]
+    /// Considers the next record. Not inlined, so that a loop over other names keeps none of this in registers.
+    #[inline(never)]
     #[tactic(auto, using(crate::proofs::LookUpLemmas::other_name))]
     pub fn consider<N: Name>(
         &mut self,
@@ -119,7 +95,8 @@ impl<'a> LookUp<'a> {
     {
         match self.best {
             Some(found) => Ok(found),
-            None => Err(missing(self.named)),
+            None if self.named => Err(Code::KvnoNotFound),
+            None => Err(Code::NotFound),
         }
     }
 }

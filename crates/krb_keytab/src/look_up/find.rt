@@ -29,7 +29,10 @@ fn consider_all_in<'a, N: Name, A: Allocator>(
     ensures { IsFoundAmong (N.parts query.now.name.now) query.now.kvno query.now.enctype
         (placed_entries keytab.entry.now.state) result.named result.best }
 {
-    let mut look_up = LookUp::new();
+    let mut look_up = LookUp {
+        named: false,
+        best: None,
+    };
     for (place, cell) in keytab.cells_in(format) {
         if let KtCell::Live(bytes) = cell {
             bytes_fit(bytes);

@@ -8,7 +8,7 @@ pub loop-place-init : goal.loop-place-init
 loop-place-init g c =
     let is = c.into_iter-place-iterator.ensures.into_iter_gives ∙ c.cells_in-place-items.ensures in
     record {
-      found = rw (c.new-look_up.ensures.named, c.new-look_up.ensures.best) (none_considered (g.N.Name.parts c.args.query.now.name.now) c.args.query.now.kvno c.args.query.now.enctype c.args.keytab.now.state c.into_iter-place-iterator.result is);
+      found = none_considered (g.N.Name.parts c.args.query.now.name.now) c.args.query.now.kvno c.args.query.now.enctype c.args.keytab.now.state c.into_iter-place-iterator.result is;
       format = ap (λ (x : CellsFrom). x.format) is ∙ sym c.requires.format;
     }
 
