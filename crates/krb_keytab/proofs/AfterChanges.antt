@@ -1,6 +1,5 @@
 -- After an addition and a removal: what was added is read back, and what was removed is gone.
 use Rattle.krb_keytab.proofs.Cited.{◌≡◌, ℕ, ◌⊎◌, true, false, List, [], ◌++◌, length, map, replicate, Option, Some, None, Ok, refl, sym, ap, subst, ◌∙◌, inl, inr, is_some, append-nil, ◌>>=◌, bytes_from, EntryParts, entry_at, Cell, Live, size, KeytabState, store_cell, store_of, entry_at_place, fits, written_form, read_back, IsEntry, PlacedCell, zero_hole, with_zeros, record_in, first_hole, with_hole, with_record_in, with_last, put_result, cut_result, arith, nat_tests}
-use Rattle.krb_walk.specs.declared.refusal.Code.TheVariants as code
 use Rattle.krb_walk.specs.Store.{end_of, fault_of, live_bytes as store_bytes}
 use Rattle.krb_keytab.proofs.Cuts.{live_there}
 use Rattle.krb_keytab.proofs.EntryLemmas.{entry_again}

@@ -1,6 +1,5 @@
 -- An image after a record is added after its cells.
 use Rattle.krb_keytab.proofs.Cited.{◌≡◌, ℕ, ◌+◌, ◌-◌, ◌^◌, ◌<◌, ◌≤◌, List, [], ◌∷◌, ◌++◌, length, take, drop, replicate, None, sym, ap, subst, ◌∙◌, append_assoc, length-append, arith, IsSome, flat_map, splice, append-nil, take_at, drop_at, take-append-drop, length-take, drop_all, Order, KtFormat, order_of, IsBytes, IsBytes-drop, CellsEnd, Ending, entry_at, Live, End, Contents, cell, end_bytes, spelling, contents, IsCell, IsEnd, IsSound, kind_of, ends, IsKnownEnd, IsChanged, mark_len, len_with, end_place, IsRecord, end_after, flat_map-append, all_join}
-use Rattle.krb_keytab.specs.declared.image.Ending.TheVariants as ending
 use Rattle.krb_keytab.proofs.CellLemmas.{contents_spelled, contents_again}
 use Rattle.krb_keytab.proofs.Cuts.{cell_len, end_place_is, end_place-append}
 

@@ -1,5 +1,5 @@
 -- A table and a tree when one cell is replaced by another of its size.
-use Rattle.krb_keytab.proofs.Cited.{◌≡◌, ℕ, ◌+◌, ◌-◌, ◌^◌, ◌<◌, ◌≤◌, true, List, ◌∷◌, ◌++◌, length, map, replicate, Option, Some, None, refl, sym, ap, subst, ◌∙◌, arith, length-append, option_map, set, leb-true, map-set, length-map, length-set, set-append_left, length-replicate, order_of, some_is, replaced_at, hole_of, PlacedCell, first_hole, is_hole, zero_hole, record_in, with_hole, with_record_in, Cell, Live, Free, IsSound, cell, end_bytes, KeytabState, image_of, end_place, Hole, Slot, free_size, slots_from, slot_of, negated, hole_of_slot, SizeTree, IsIndex, HasSpare, slot_at, IsFit, IsLiveNumber}
+use Rattle.krb_keytab.proofs.Cited.{◌≡◌, ℕ, ◌+◌, ◌-◌, ◌^◌, ◌<◌, ◌≤◌, true, List, ◌∷◌, ◌++◌, length, map, replicate, Option, Some, None, refl, sym, ap, subst, ◌∙◌, arith, length-append, option_map, set, leb-true, map-set, length-map, length-set, set-append_left, length-replicate, order_of, some_is, replaced_at, hole_of, PlacedCell, first_hole, is_hole, zero_hole, record_in, with_hole, with_record_in, Cell, Live, Free, IsSound, end_bytes, KeytabState, image_of, end_place, Hole, Slot, free_size, slots_from, slot_of, negated, hole_of_slot, SizeTree, IsIndex, HasSpare, slot_at, IsFit, IsLiveNumber}
 use Rattle.krb_keytab.specs.Cells as cells
 use Rattle.krb_keytab.proofs.Cuts.{end_place_is, end_place-append}
 use Rattle.krb_keytab.proofs.Replacements.{IsAt, is_at_sound, hole_is_at, replaced_cells}

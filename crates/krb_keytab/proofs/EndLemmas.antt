@@ -1,6 +1,5 @@
 -- What is at a place, read whole.
 use Rattle.krb_keytab.proofs.Cited.{◌≡◌, ℕ, ◌+◌, ◌≤◌, List, ◌∷◌, length, take, drop, ap, ◌∙◌, arith, length-take, length-drop, drop-drop, KtFormat, IsBytes, IsBytes-drop, Length, Ending, size_of, Contents, cell_in, next, contents, size, ends, IsPassed, EndsThere, NoMore, More}
-use Rattle.krb_keytab.specs.declared.length.Length.TheVariants as says
 use Rattle.krb_keytab.proofs.CellLemmas.{contents_next}
 
 pub ends_there : (f : KtFormat) (image : List ℕ) (at : ℕ) (e : Ending) → IsBytes image → next f (drop at image) ≡ NoMore (ends (drop at image) e) → EndsThere f image at e

@@ -1,6 +1,5 @@
 -- A rewritten keytab, as a store.
-use Rattle.krb_keytab.proofs.Cited.{◌≡◌, ℕ, ◌+◌, ◌^◌, ◌<◌, ◌≤◌, true, List, [], ◌∷◌, ◌++◌, length, map, drop, Option, Some, None, Ok, refl, sym, ap, subst, ◌∙◌, append_assoc, length-append, arith, is_some, w32, filter_map, flat_map, cons_option, AllByRecursion, append-nil, flat_map-cons, Order, Big, KtFormat, V2, order_of, digits, HasNameType, number_at, IsBytes, IsBytes-drop, is_some_has, wide32, number_takes, Rewrites, records_of, EntryParts, entry_at, front, entry_of, Spells, version_by, Cell, Live, Free, Bare, bytes_of, length_field, cell, end_bytes, contents, IsCell, IsSound, KeytabState, store_cell, store_of, image_of, entries, written_form, fits, IsEntry, new_record, rewrite_of, rewrite_result, IsKnownEnd, drop_of_length-le, nat_tests, IsBytes-front, IsBytes-back}
-use Rattle.krb_walk.specs.declared.refusal.Code.TheVariants as code
+use Rattle.krb_keytab.proofs.Cited.{◌≡◌, ℕ, ◌+◌, ◌^◌, ◌<◌, ◌≤◌, true, List, [], ◌∷◌, ◌++◌, length, map, drop, Option, Some, None, Ok, refl, sym, ap, subst, ◌∙◌, append_assoc, length-append, arith, is_some, w32, filter_map, flat_map, cons_option, AllByRecursion, append-nil, flat_map-cons, Order, Big, KtFormat, V2, order_of, digits, HasNameType, number_at, IsBytes, IsBytes-drop, is_some_has, wide32, number_takes, Rewrites, records_of, EntryParts, entry_at, front, entry_of, Spells, version_by, Cell, Live, Free, bytes_of, length_field, cell, end_bytes, contents, IsCell, IsSound, KeytabState, store_cell, store_of, image_of, entries, written_form, fits, IsEntry, new_record, rewrite_of, rewrite_result, IsKnownEnd, drop_of_length-le, nat_tests, IsBytes-front, IsBytes-back}
 use Rattle.krb_walk.specs.Store.{Cell as StoreCell}
 use Rattle.krb_walk.proofs.Lives.{lives}
 use Rattle.krb_keytab.specs.declared.image.Ending.TheVariants as ending
@@ -146,7 +145,7 @@ pub rewrite_known : (k : KeytabState) (new : List ℕ) (len : ℕ) → contents 
 rewrite_known k new len is spelled is_len = search (arith, drop_of_length-le, contents_none, length-append, end_place_is)
 
 pub rewrites_store : (k : KeytabState) → IsSound k.format k.contents → IsSound V2 (rewrite_of k).contents → (store_of k).fault ≡ None → Rewrites (store_of k) (store_of (rewrite_of k))
-rewrites_store k was sound whole = search (arith, store_sound, all_live_of, lives, entries_all, as_many_of)
+rewrites_store k was sound whole = search (arith, store_sound, all_live_of, entries_all, as_many_of)
 
 -- the new image, as a keytab
 pub rewrite_held : (f : KtFormat) (limit : ℕ) (image new : List ℕ) (k : KeytabState) → keytab_of f limit image ≡ k → contents V2 (drop 2 new) ≡ (rewrite_of k).contents → keytab_of V2 limit new ≡ rewrite_of k

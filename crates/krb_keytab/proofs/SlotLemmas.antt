@@ -1,7 +1,6 @@
 -- The table of cells.
 use Rattle.krb_keytab.proofs.Cited.{◌≡◌, ℕ, ◌<◌, ◌≤◌, true, false, List, length, get_or, arith, nat_lt, slice_index, cases_lt, lt-ltb, ltb-true, ltb-false, length-map, get_or-map, Slot}
 use Rattle.std.specs.List.Sorted.{IsPartitionedBy, IsPartitionPoint}
-use Rattle.krb_keytab.specs.declared.length.Length.TheVariants as says
 use Rattle.krb_keytab.specs.Slot.{places, IsRising, IsRank}
 
 -- ---- the rank of a place

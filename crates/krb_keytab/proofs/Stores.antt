@@ -1,7 +1,6 @@
 -- The store of a keytab, by the fields in which it is kept.
 use Rattle.krb_keytab.proofs.Cited.{◌≡◌, ℕ, ◌<◌, ◌^◌, List, length, drop, Option, Some, None, sym, ap, ◌∙◌, arith, IsSome, IfNone, KtFormat, Gives, place_first, CellsEnd, entry_at, Live, contents, IsSound, IsKnownEnd, KeytabState, InMemory, IsImage, store_of}
 use Rattle.krb_walk.specs.Store.{end_of, live_bytes as store_bytes, IsPlace}
-use Rattle.krb_keytab.specs.declared.image.Ending.TheVariants as ending
 use Rattle.krb_keytab.proofs.Cuts.{places_for}
 use Rattle.krb_keytab.proofs.Replacements.{live_is_at, is_at_sound}
 
