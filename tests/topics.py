@@ -1,5 +1,5 @@
 """The topics of the tests: the modules in the folders beside this file, and their TOPICS, that have a table or
-a function of a certain name. In BREAKS each has the files and folders whose change it is the first to notice."""
+a function of a certain name. In breaks.txt each has the files and folders whose change it is the first to notice."""
 
 import re
 from functools import cache
@@ -31,16 +31,17 @@ def topics(*those: str) -> dict[str, ModuleType | Topic]:
 
 @cache
 def breaks() -> dict[str, tuple[str, ...]]:
-    """Returns for each topic the path of its module, and those in BREAKS there, where `*` is any part of a name."""
-    found = {name: modules()[name] for name in topics("CASES", "check") if name in modules()}
-    found |= {topic.name: module for module in modules().values() for topic in getattr(module, "TOPICS", ())}
-    return {name: (f"tests/{module.__name__.replace('.', '/')}.py", *getattr(module, "BREAKS", ()))
-            for name, module in found.items()}
+    """Returns for each topic the path of its module, and those in the row of that."""
+    rows = dict(re.findall(r"^(\w+): (.*(?:\n .*)*)", Path(FOLDER, "breaks.txt").read_text("utf-8"), re.MULTILINE))
+    found = {name: name for name in topics("CASES", "check") if name in modules()}
+    found |= {topic.name: name for name, module in modules().items() for topic in getattr(module, "TOPICS", ())}
+    return {topic: (f"tests/{modules()[name].__name__.replace('.', '/')}.py", *rows.get(name, "").split())
+            for topic, name in found.items()}
 
 
 @cache
 def parts(name: str) -> list[str]:
-    """Returns the files and folders of a path in BREAKS. The folder of a crate is its src and its specs."""
+    """Returns the files and folders of a path in breaks.txt."""
     found = glob(name, root_dir=FOLDER.parent)
     crates = [it for it in found if re.fullmatch(r"crates/\w+", it)]
     return [it for it in found if it not in crates] + [f"{it}/{part}" for it in crates for part in ("src", "specs")]

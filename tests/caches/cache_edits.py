@@ -8,8 +8,6 @@ from makers.images import (OFFSET, PA_TYPE, TICKET, USUAL, VERSION_3, Credential
                            offset)
 from runs.harness import Case, Outcome, message, over
 
-BREAKS = ("crates/krb_editors/src/ccedit.rt", "crates/krb_cache_text")
-
 SET_3 = "config pa_type krbtgt/R@R 3"
 THREE = config(b"pa_type", b"3", b"krbtgt/R@R")
 TIMED = replace(TICKET, starttime=2, renew_till=4)  # a ticket with each of the four times

@@ -7,8 +7,6 @@ from keytabs.listings import KNOWN_TIMES
 from makers.images import FLAGS, TICKET, USUAL, VERSION_3, Name, cache, config, header_field, offset
 from runs.harness import Case, Outcome, message, over
 
-BREAKS = ("crates/krb_readers/src/klist.rt", "crates/krb_cache_text", "crates/krb_ccache")
-
 TICKET_LINE = b"2023-11-14T22:13:20Z 2023-11-15T08:13:20Z krbtgt/R@R"
 
 of_host = partial(replace, TICKET, server=Name((b"host", b"a")))

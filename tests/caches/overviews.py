@@ -7,8 +7,6 @@ from runs.harness import Line, words_of
 from words.explaining import FAILED, FULL, Explained, over_files
 from words.phrases import BAD_HEADER, BEGINS_AS_KEYTAB, CAUSES, COLLECTION
 
-BREAKS = ("crates/krb_readers/src/klist", "crates/krb_json/src/summary.rt")
-
 # Caches, and files that are none.
 FILES = {"t": cache(TGT), "o": cache(OVER), "e": cache(), "a\nb": cache(TGT), "k": TWO,
          "x": cache(TGT, fields=b"\0\x01\0")}

@@ -10,9 +10,6 @@ from makers.images import (FIELDS, OFFSET, PA_TYPE, TICKET, Credential, Name, ca
                            ticket)
 from runs.harness import Case, Outcome, message, over
 
-BREAKS = ("crates/krb_editors/src/ccremove.rt", "crates/krb_editors/src/selecting.rt",
-          "crates/krb_audit/src/tickets.rt")
-
 FUTURE = 2**32 - 1  # a time that does not come during a test
 LATER, LATER_HOST = replace(TICKET, endtime=FUTURE), of_host(endtime=FUTURE)  # tickets that end then
 

@@ -9,8 +9,6 @@ from makers.images import PA_TYPE, TICKET, TWO, Credential, Name, cache, config_
 from runs.harness import Case, Outcome, Report, folder_of, run, words_of
 from system.pipe_files import fed
 
-BREAKS = ("crates/krb_readers/src/klist", "crates/krb_audit/src/tickets.rt")
-
 FUTURE = 2**32 - 1  # a time that does not come during a test; the usual ticket ended before
 VALID, NONE, UNREAD = Outcome(0), Outcome(1), Outcome(3)  # how runs end
 

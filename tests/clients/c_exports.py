@@ -5,8 +5,6 @@ import re
 from pages.documents import read, sources
 from runs.harness import Report
 
-BREAKS = ("c/krbfile.h", "c/krbfile.map", "docs/krbfile.3", "crates/krb_c")
-
 EXPORT = re.compile(r'pub extern "C" fn (krbf_\w+)\(([^)]*)\)(?: -> (\w+))?', re.S)
 SYNOPSIS = re.compile(r"^\.Ft (\w+)\n\.Fn (krbf_\w+)(.*)$", re.M)
 PROTOTYPE = re.compile(r"^(uint32_t|void) (krbf_\w+)\(([^)]*)\);", re.S | re.M)

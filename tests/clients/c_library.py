@@ -18,8 +18,6 @@ from runs.harness import SECONDS, TOP, Outcome, Report, differences, every, file
 from runs.undisturbed import frame
 from system.saving import owned, tree_faults
 
-BREAKS = ("c", "tests/c", "crates/krb_c", "crates/wiping")
-
 LIBRARY = os.path.join(TOP, "lib", "libkrbfile.a")
 SHARED = os.path.join(TOP, "lib", "libkrbfile.so.1")
 SOURCES = os.path.join(TOP, "tests", "c")

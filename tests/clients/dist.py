@@ -15,8 +15,6 @@ from pages.documents import read
 from runs.harness import TOP, Outcome, Report, every, files_in, folder_of, message, run
 from runs.namespaces import UNSHARE, no_mounts
 
-BREAKS = ("Makefile", "c/krbfile.pc.in", "packaging", "python/pyproject.toml.in", "tests/selftest")
-
 BUILT = ("bin/krbfile-static", "lib/libkrbfile.a", "lib/libkrbfile.so.1")  # what is built and packed
 LINKED = (BUILT[0], BUILT[2])  # what is linked here
 

@@ -14,8 +14,6 @@ from pages.documents import read
 from pages.readme import installed
 from runs.harness import TOP, Outcome, Report, files_in, folder_of, message, run
 
-BREAKS = ("examples",)
-
 # The files of jobs, each with a line that it prints.
 FOUND = b"./mixed.keytab: weak 53 kvno 3 etype 23 b@R\n./mixed.keytab: entries 2 free 0 holes 0\n"
 JOBS = {"keytabs.cron": FOUND, "keytabs.service": FOUND, "keytabs.yml":

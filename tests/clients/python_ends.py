@@ -8,8 +8,6 @@ from pages.readme import no_library
 from runs.harness import every
 from words.phrases import AFTERMATHS, CAUSES, GIVEN_DAMAGED
 
-BREAKS = ("python/krbfile/editing.py", "python/krbfile/origin.py")
-
 # What a stand-in does first, and its messages and its last line then; and what the block raises.
 LOST, MIXED, DENIED = AFTERMATHS["lost change"], AFTERMATHS["mixed"], CAUSES["EACCES"]
 FRAME = r"printf '2\n\5\2'; while read -r part; do :; done"

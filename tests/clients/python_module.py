@@ -12,8 +12,6 @@ from pages.readme import no_library, surroundings
 from runs.harness import Outcome, Report, every, folder_of, run, text
 from words.phrases import LIBRARY_CODES, SHORT, code
 
-BREAKS = ("python", "crates/krb_c")
-
 Script = tuple[str, str, bytes, list[str]]  # a script's name, its text, its input, and the lines that it prints
 
 # What each script begins with: what a call gives or raises, also once that is pickled; and threads.

@@ -17,8 +17,6 @@ from pages.readme import no_library, surroundings
 from runs.harness import SECONDS, Report, every, folder_of
 from system.saving import NEW, OLD, edit, tree_faults
 
-BREAKS = ("python/krbfile", "crates/krb_editors/src/hold", "crates/krb_editors/src/hold.rt")
-
 # What is saved: also in place, of the other byte order, under strange names and default ones, and by threads.
 SAVES = """
 image, cache, big = map(bytes.fromhex, image.decode().split())

@@ -17,8 +17,6 @@ from makers.random_caches import KEYS, PRINCIPALS, filled_cache, random_credenti
 from makers.random_keytabs import Choices, damaged, random_bytes, random_keytab
 from runs.undisturbed import Undisturbed, undisturbed
 
-BREAKS = ("crates/krb_wire", "crates/krb_walk", "crates/krb_cells", "crates/krb_keytab", "crates/krb_ccache")
-
 # Few names, versions, types and keys, so that many entries agree; MIT's programs do not see those with empty parts.
 REMOVED = Choices(names=(*[(b"a", b"R")] * 6, (b"a", b"b", b"R"), (b"a/b", b"R"), (b"", b"R"), (b"R",)),
                   versions=(0, 1, 127, 128, 240, 241, 255, 256, 2**32 - 1), enctypes=(0, 17, 18, 23),

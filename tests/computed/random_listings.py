@@ -15,8 +15,6 @@ from makers.random_keytabs import Choices, damaged, mutated, random_image
 from runs.undisturbed import Undisturbed, undisturbed
 from words.phrases import FINDINGS
 
-BREAKS = ("crates/krb_wire", "crates/krb_walk", "crates/krb_names", "crates/krb_keytab", "crates/krb_ccache")
-
 # Few names, versions, types and keys, so that many entries agree.
 FOUND = Choices(names=(*[(b"a", b"R")] * 5, (b"a", b"b", b"R"), (b"a/b", b"R"), (b"", b"\n", b"@"), (b"\n", b"@"),
                        (b"-A", b"R")), versions=(0, 1, 255, 256, 257, 2**32 - 1), enctypes=(0, 17, 18, 273))

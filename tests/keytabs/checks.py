@@ -10,9 +10,6 @@ from keytabs.removals import line_of
 from makers.images import B, HOST, TWO, Entry, keytab
 from runs.harness import Case, Outcome, Report, folder_of, over, printed, run, with_mode
 
-BREAKS = ("crates/krb_readers/src/ktcheck", "crates/krb_readers/src/ktcheck.rt", "crates/krb_audit", "crates/krb_names",
-          "crates/krb_findings", "crates/krb_json/src/check.rt", "crates/krb_json/src/finding.rt")
-
 LONG = 32_768  # the smallest length that MIT's reader takes for the end
 
 # Entries at which MIT's programs stop, and some that they list: another topic shows each beside these programs.

@@ -14,8 +14,6 @@ from keytabs.ktutil_lines import NO_SLOTS, TWO_LISTED
 from makers.images import TWO
 from runs.harness import SECONDS, Outcome, Report, differences, folder_of, piped, short, text
 
-BREAKS = ("crates/krb_ktutil", "crates/krb_files/src/reader.rt", "crates/krb_files/src/watched.rt")
-
 LISTED = text(TWO_LISTED)
 MOMENT = 0.05  # how long a run has to reach the point where it waits
 

@@ -11,8 +11,6 @@ from keytabs.removals import AES256, DAMAGED, FIVE, FOUR, NOT_FOUND, line_of
 from makers.images import B, HOST, TWO, Entry, keytab, old, record
 from runs.harness import Case, Outcome, message, printed, words_of
 
-BREAKS = ("crates/krb_editors/src/ktcopy.rt", "crates/krb_editors/src/ktdiff.rt", "crates/krb_copy")
-
 X, Y = "kvno 3 etype 17 host/a@R", "kvno 3 etype 17 b@R"
 OTHER, THIRD = replace(B, key=bytes(16)), replace(B, key=b"\xff" * 16)  # as that of b@R, with other keys
 LONG = Entry((b"",) * 65_535)  # a name whose count of components version 1 cannot hold

@@ -8,8 +8,6 @@ from keytabs.file_names import LIMIT
 from makers.images import B, END, HOST, TWO, Entry, hole, keytab, old, record
 from runs.harness import Case, Outcome, message, over, printed
 
-BREAKS = ("crates/krb_editors", "crates/krb_keytab_text", "crates/krb_walk", "crates/krb_cells", "crates/krb_keytab")
-
 # Lines that add host/a@R and b@R, as HOST and B have them, and c@R.
 ADD_HOST = "add 3 17 1700000000 000102030405060708090a0b0c0d0e0f host/a@R"
 B_KEY = B.key.hex()

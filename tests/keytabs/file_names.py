@@ -7,8 +7,6 @@ from keytabs.listings import B_LINE, HOST_LINE, listed
 from makers.images import HOST, TWO, keytab
 from runs.harness import Case, Outcome, Report, folder_of, message, over, run
 
-BREAKS = ("crates/krb_disk/src/read.rt", "crates/krb_driver/src/loading.rt", "crates/krb_driver/src/opening.rt")
-
 LIMIT = 16_777_216  # the greatest size of a file that is read
 NOBODY = 65_534  # a user who may not read root's files
 

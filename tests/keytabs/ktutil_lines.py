@@ -5,8 +5,6 @@ from keytabs.file_names import LIMIT
 from makers.images import B, HOST, TWO, Entry, keytab
 from runs.harness import Case, Outcome, text
 
-BREAKS = ("crates/krb_ktutil",)
-
 KEY = "000102030405060708090a0b0c0d0e0f"
 ADDENT = "addent -key -p host/a@R -k 3 -e aes128-cts-hmac-sha1-96"
 

@@ -10,8 +10,6 @@ from runs.harness import Case, Outcome, Report, message, over
 from runs.undisturbed import undisturbed
 from words.phrases import FORMATS
 
-BREAKS = ("crates/krb_readers", "crates/krb_text", "crates/krb_keytab_text", "crates/krb_json", "docs/FORMATS.md")
-
 # The enctypes that have names: the lengths of their keys, and the names; the first is printed.
 ETYPES = {
     16: (24, "des3-cbc-sha1 des3 des3-hmac-sha1 des3-cbc-sha1-kd"),

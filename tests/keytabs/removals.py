@@ -5,9 +5,6 @@ from keytabs import greatest
 from makers.images import HOST, Entry, keytab, name_text
 from runs.harness import Case, Outcome, message, over, printed, words_of
 
-BREAKS = ("crates/krb_editors/src/ktremove.rt", "crates/krb_editors/src/removing.rt",
-          "crates/krb_editors/src/selecting.rt", "crates/krb_readers/src/ktfind.rt")
-
 NOT_FOUND = message(1, "k: refused 9")
 DAMAGED = message(1, "k: refused 1")
 

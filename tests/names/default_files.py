@@ -16,9 +16,6 @@ from system.saving import write
 from words.explaining import Explained, unchanged
 from words.phrases import DEFAULT
 
-BREAKS = ("crates/krbfile/src/default_name.rt", "crates/krb_command_line/src/place.rt",
-          "crates/krb_driver/src/without_files.rt")
-
 CCNAME, KTNAME = Kind.CACHE.variable, Kind.KEYTAB.variable
 CACHE = IMAGES[Kind.CACHE]
 KEYTAB = FileName("/etc/krb5.keytab", source=DEFAULT)

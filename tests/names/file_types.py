@@ -15,9 +15,6 @@ from runs.harness import Report, check_rows
 from words.explaining import FINDS_NONE, Explained, copy, no_keytab, unchanged
 from words.phrases import BEGINS_AS_NO_KEYTAB, LEAVE_OUT, NAMED, NOT_READ, code, unknown
 
-BREAKS = ("crates/krb_driver/src/file_name.rt", "crates/krb_driver/src/either.rt", "crates/krb_driver/src/verdict.rt",
-          "crates/krb_commands")
-
 # Words that every command is tried with, and its variable; the listings are tried with all.
 SOME = ("FILE:FILE:k", "WRFILE:k", "./FILE:k", "C:k", 'ключ "\\:k', "KCM:k", "DIR::k", "DIR:k", "FILE:", "")
 # What no run looks at, but for the variable of its kind where the file is left out.

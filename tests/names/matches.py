@@ -15,8 +15,6 @@ from makers.images import (CONFIG_REALM, HOST, KRBTGT, PA_TYPE, TICKET, TICKET_V
 from runs.harness import Case, message, printed, words_of
 from words.phrases import FORMATS
 
-BREAKS = ("crates/krb_match", "crates/krb_readers/src/ktmatch*", "crates/krb_json/src/match*")
-
 WRONG = ("unread", "name", "kvno", "etype")  # the words of lines that make the status 1
 
 

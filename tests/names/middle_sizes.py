@@ -14,8 +14,6 @@ from system.saving import HOLD_SAVED
 from words.explaining import for_owner, over_files
 from words.phrases import FINDINGS
 
-BREAKS = ("crates/krb_editors", "crates/krb_readers", "crates/krb_ktutil", "crates/krb_copy")
-
 COUNT = 5_000  # how many entries or tickets a file has
 NAMES = [f"{number:02}@R" for number in range(50)]  # of entries and tickets, in turn; each name has a hundred versions
 ENTRY = "{place} kvno {kvno} etype 17 {name}"  # an entry in a line that reports it

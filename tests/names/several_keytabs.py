@@ -11,8 +11,6 @@ from runs.harness import Line, text
 from words.explaining import FAILED, FULL, Explained, Output, over_files
 from words.phrases import BEGINS_AS_NO_KEYTAB, CAUSES, FAULTS, FINDINGS, HINTS, NOT_READ
 
-BREAKS = ("crates/krb_driver/src/several.rt", "crates/krb_readers/src/ktcheck")
-
 # Keytabs, for their owner alone, but `all`, which all users may read and has each finding but `empty`.
 RC4 = replace(HOST, enctype=23)
 FILES = {

@@ -13,8 +13,6 @@ from runs.harness import Line
 from words.explaining import FAILED, FULL, Explained, no_keytab, over_files
 from words.phrases import BEGINS_AS_KEYTAB, CAUSES, COLLECTION, LARGE, LISTED_AS_KEYTAB
 
-BREAKS = ("crates/krb_driver/src/several.rt", "crates/krb_readers/src/klist.rt")
-
 FILES = {"k": TWO, "j": keytab(B), "d": keytab(HOST, b"\0"), "n": keytab(), "c": USUAL, "e": cache(),
          "o": cache(fields=OFFSET),         "a\nb": keytab(B), "FILE:k": keytab(HOST)}
 

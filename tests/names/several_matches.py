@@ -13,8 +13,6 @@ from runs.harness import Line, text
 from words.explaining import FAILED, FULL, Explained, Output, no_keytab, over_files
 from words.phrases import BEGINS_AS_NO_CACHE, BEGINS_AS_NO_KEYTAB, FAULTS, MATCHED_AS_KEYTAB, MATCHES, code
 
-BREAKS = ("crates/krb_driver/src/several.rt", "crates/krb_match", "crates/krb_readers/src/ktmatch*")
-
 # A keytab, and caches: `o` opens, `m` has each line, `d` ends in a fault, as `n` does, which has no ticket, `e` has one
 # that is not looked at.
 FILES = {

@@ -13,9 +13,6 @@ from runs.harness import Line, text
 from words.explaining import FAILED, FULL, Explained, in_the_way, link, over_files
 from words.phrases import CAUSES, TO_NAME, code
 
-BREAKS = ("crates/krb_driver/src/several.rt", "crates/krb_editors/src/missing_files.rt",
-          "crates/krb_editors/src/removing.rt")
-
 # Keytabs: `o` alone has an old entry. Caches: `c` has an expired ticket and a service's valid one, the others one each.
 FILES = {
     "k": TWO, "j": keytab(B), "o": keytab(HOST, FIVE), "d": keytab(HOST, b"\0"), "x": NEITHER, "a\nb": keytab(B),

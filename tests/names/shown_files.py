@@ -10,8 +10,6 @@ from runs.system_calls import preloaded
 from words.explaining import FAILED, FULL, Explained, no_keytab, over_files
 from words.phrases import BAD_DEFAULT, COLLECTION, FAULTS, NOT_READ, SHORT, SHOWN_AS_NEITHER
 
-BREAKS = ("crates/krb_readers/src/show", "crates/krb_readers/src/show.rt", "crates/krb_show")
-
 NOW = 1_700_864_000  # the time of the clock
 AGES = {1: "1 s", 119: "119 s", 120: "2 min", 7_199: "119 min", 7_200: "2 h", 172_799: "47 h", 172_800: "2 d",
         730 * 86_400 - 1: "729 d", 730 * 86_400: "2 y", NOW - 1: "53 y"}

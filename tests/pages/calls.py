@@ -7,8 +7,6 @@ import re
 from pages.documents import paths, read
 from runs.harness import TOP, Report
 
-BREAKS = ("crates/*/CALLING.md", "crates/library_tests")
-
 ON_PAGE_OF = {"krb_files": ["krb_disk"]}  # crates whose calls are on the page of another
 
 # An item that may contain functions, or a function up to its body.

@@ -8,8 +8,6 @@ from pages.documents import paths, read
 from runs.commands import COMMANDS
 from runs.harness import TOP, Report, files_in, folder_of, run
 
-BREAKS = ("crates/*/specs", "crates/samples", "tests/definitions")
-
 MAKER = os.path.join(TOP, "tests", "definitions")
 LINES, COLUMNS = 200, 100
 

@@ -9,9 +9,6 @@ from pathlib import Path
 from runs.harness import TOP, Report
 from topics import breaks, of_change, parts
 
-BREAKS = ("*.md", "*/*.md", "docs/*.md", "crates/*/CALLING.md", "crates.txt", "crates/good_tickets",
-          "crates/rotate_keys")
-
 MAP = os.path.join("docs", "DESIGN.md")
 PROVED = "crates/library_tests/src/tests/readme.rt"  # the proved code of the pages that lead to no source
 
@@ -88,8 +85,8 @@ def check_list(report: Report) -> None:
 
 def check_topics(report: Report) -> None:
     """Checks that each topic names what it is the first to notice, and that each source and page is named."""
-    report.check("the topics without BREAKS", [topic for topic, names in breaks().items() if not names[1:]])
-    report.check("the paths of BREAKS that do not exist",
+    report.check("the topics without a row in breaks.txt", [topic for topic, names in breaks().items() if not names[1:]])
+    report.check("the paths in breaks.txt that do not exist",
                  sorted({name for names in breaks().values() for name in names if not parts(name)}))
     files = paths("crates/*/src/**/*.rt", "*.md", "*/README.md", "docs/*", "crates/*/CALLING.md")
     report.check("the sources and pages that no topic names", [path for path in files if not of_change(path)])

@@ -13,8 +13,6 @@ from runs.commands import COMMANDS
 from runs.harness import TOP, Outcome, Report, folder_of, run
 from runs.undisturbed import preload_library
 
-BREAKS = ("README.md", "docs/krbfile.1", "tests/samples")
-
 NOW = 1_708_640_000  # the time of the clock where ages are shown: 100 days after the times of most samples
 LIBRARY = os.path.join(TOP, "lib", "libkrbfile.so.1")
 

@@ -7,7 +7,6 @@ from pages.documents import paths, read
 from runs.harness import TOP, Report
 
 PAGE = "CONTRIBUTING.md"
-BREAKS = (PAGE,)
 
 RECIPE = re.compile(r"^### ([^,\n]*).*\n((?s:.*?))(?=^##)", re.MULTILINE)
 FILES = re.compile(r"`((?:crates|docs|examples|python|tests)/[^` ]+|[A-Z]+\.md)`")  # a file or some, from the top

@@ -13,8 +13,6 @@ from words import phrases
 from words.completions import helped, offered
 from words.mistakes import MISTAKES, NEAR
 
-BREAKS = ("docs/krbfile.1", "docs/krbfile.3", "docs/krbfile.5", "docs/FORMATS.md", "crates/*/specs", "python/krbfile")
-
 PAGES = ("docs/krbfile.1", "docs/krbfile.5", "docs/krbfile.3")
 
 

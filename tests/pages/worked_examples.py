@@ -42,7 +42,6 @@ crates/krb_ktutil/src/ktutil/state.rt: ensures spared (a key is awaited still)
 """
 PLACES = {path: re.split("; *", " ".join(those.split())) for path, those in re.findall(
     r"^(\S+): (.*(?:\n .*)*)", SHOWN, re.MULTILINE)}
-BREAKS = tuple(PLACES)
 
 
 def check(report: Report, _program: str) -> None:

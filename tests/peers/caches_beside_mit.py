@@ -21,8 +21,6 @@ from makers.random_caches import random_credential, random_name
 from peers.beside_mit import SURROUNDINGS, Mit, are_there, check_seeds, differences_of, differing_types, lack, mit_klist
 from runs.harness import Check, Outcome, Report, differences, every, files_in, folder_of, run
 
-BREAKS = ("crates/krb_ccache", "crates/krb_cache_text")
-
 TOOLS = ("klist", "kinit", "kvno", "kdb5_util", "krb5kdc")  # MIT's programs
 
 CLIENT_CONF = """[libdefaults]

@@ -9,8 +9,6 @@ from peers.corpus import files
 from runs.harness import Report, folder_of
 from runs.undisturbed import Undisturbed, undisturbed
 
-BREAKS = ("tests/corpus/ccache", "crates/krb_ccache", "crates/krb_editors/src/ccedit.rt")
-
 SETTING = b"config fast_avail krbtgt/R@R no\nconfig mine - 1\n"  # lines that set values in a cache
 SET = ["config: fast_avail(krbtgt/R@R) = no\n", "config: mine = 1\n"]  # how MIT's klist shows these
 NOW = 1_800_000_000  # a time at which some of the tickets have expired

@@ -16,8 +16,6 @@ from pathlib import Path
 
 from runs.harness import TOP, Case, Outcome, Report
 
-BREAKS = ("tests/corpus", "tests/samples_of_corpus", "crates/corpus_samples")
-
 FOLDER = os.path.join(TOP, "tests", "corpus")  # of the files and cases
 ROW = re.compile(r"^\| `(\S+)` \| (.*?) \| .*? \|$", re.M)  # of a table in its README: a file, and who wrote it
 

@@ -16,8 +16,6 @@ from peers.caches_beside_mit import REALM, Failed, Realm, in_realm
 from runs.harness import EXPLAIN, Report, every, files_in, folder_of, run, text
 from runs.undisturbed import preload_library, undisturbed
 
-BREAKS = ("crates/krb_keytab", "crates/krb_text/src/key.rt", "crates/krb_audit/src/mit.rt")
-
 # Entries of each enctype that has a name, with quoted names, and versions of more than 8 bits.
 EACH_ETYPE = [f"add {300 * number} {number} {number} {bytes(range(size)).hex()} a\\/b\\@/c d\\n\\\\/e@R\\/S"
               for number, size in KEY_SIZES.items()]

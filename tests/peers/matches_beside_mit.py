@@ -16,8 +16,6 @@ from peers.caches_beside_mit import ETYPES, HOST, REALM, USER, Realm, in_realm
 from runs.harness import Report, folder_of, run
 from system.saving import write
 
-BREAKS = ("crates/krb_match", "crates/krb_ccache/src/der.rt")
-
 WHAT, ONCE = "matches beside MIT's kvno", "svc/once"  # a service whose key never changes
 # Services, and the versions of the keys that each has in turn.
 VERSIONS = {"svc/h": (1, 2, 255, 300, 65_000), "svc/H": (2, 259, 1_001), HOST: (3, 260), ONCE: (7,)}

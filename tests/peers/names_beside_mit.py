@@ -13,8 +13,6 @@ from names.named_files import IMAGES, Kind, named
 from peers.beside_mit import SURROUNDINGS, lack
 from runs.harness import Outcome, Report, every, folder_of, message, run
 
-BREAKS = ("crates/krbfile/src/default_name.rt", "crates/krb_driver/src/file_name.rt", "docs/PEERS.md")
-
 # The name of the file in what each prints: where there is none, and where it is listed.
 MISSING = re.compile(rb"klist: .*(?:\(filename: (.*)\)|Key table file '(.*)' not found)|"
                      rb"krbfile: (.*): (?:no such file|cannot read)\n", re.DOTALL)

@@ -10,8 +10,6 @@ from runs.undisturbed import IN_PLACE, Undisturbed, undisturbed
 from system.changes_at_once import names_of
 from system.saving import ADD_LONG
 
-BREAKS = ("crates/krb_disk/src/in_place", "crates/krb_disk/src/in_place.rt")
-
 MOMENT = 0.3  # how long a run is watched that has to wait
 FIRST, MITS, OURS = "host/a", "b", "a/long/name"  # the names at first, of MIT's entry, and of a run's
 

@@ -10,8 +10,6 @@ from peers.beside_mit import are_there, as_json, differing_types, ticket_types
 from peers.corpus import files
 from runs.harness import Report, folder_of
 
-BREAKS = ("crates/krb_ccache/src/der.rt", "crates/krb_ccache/src/ticket.rt", "crates/krb_json/src/ticket.rt")
-
 Encryption = tuple[int | None, str | None, int | None]  # JSON of a ticket: its enctype, the name of that, and its kvno
 NAME = "aes256-cts-hmac-sha1-96"
 USUAL: Encryption = (18, NAME, 2)

@@ -13,8 +13,6 @@ from runs.harness import Report, folder_of, run
 from runs.random_runs import Rounds
 from runs.storms import Run, rage
 
-BREAKS = ("crates/krb_disk/src/looks/locks.rt", "crates/krb_editors/src/ccremove.rt")
-
 EACH = 15  # how many runs of each command there are
 WITHIN = 0.5  # within how many seconds they begin
 # Services whose tickets are removed, and those whose tickets are added.

@@ -13,8 +13,6 @@ from peers.beside_mit import as_json, differences_of
 from peers.caches_beside_mit import HOST, USER, Realm, in_realm
 from runs.harness import Outcome, Report, differences, files_in, folder_of, message, printed, run
 
-BREAKS = ("crates/krb_ccache", "crates/krb_editors/src/ccremove.rt")
-
 TGT = "krbtgt/CACHE.TEST@CACHE.TEST"
 HOST_TEXT = f"{HOST}@CACHE.TEST"
 SVC_TEXT = "svc/h@CACHE.TEST"

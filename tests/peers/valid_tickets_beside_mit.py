@@ -13,8 +13,6 @@ from runs.harness import Outcome, Report, folder_of, run
 from runs.system_calls import Preloaded, preloaded
 from runs.undisturbed import undisturbed
 
-BREAKS = ("crates/krb_readers/src/klist", "crates/krb_audit/src/tickets.rt")
-
 END, LATER = TICKET.endtime, TICKET.endtime + 1_000  # the end of the usual ticket, and another
 
 # The servers of the random caches, two of ticket-granting tickets.

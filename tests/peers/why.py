@@ -7,8 +7,6 @@ from makers.images import B, HOST, TWO, keytab
 from peers.beside_mit import SURROUNDINGS, are_there, mit_klist
 from runs.harness import Report, folder_of, printed, run
 
-BREAKS = ("README.md",)
-
 mit = partial(run, env=SURROUNDINGS)  # a run of a program of MIT's
 
 

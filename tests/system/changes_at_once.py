@@ -22,8 +22,6 @@ from runs.storms import Run, rage
 from runs.undisturbed import IN_PLACE, PROGRAM
 from system.saving import tree, write
 
-BREAKS = ("crates/krb_disk",)
-
 MANY = 60  # how many runs there are at once
 NAMED = {"entries": "principal", "tickets": "server", "config": "key"}  # parts of JSON, each with the member of a name
 PATHS = ("k", "./k", "link")  # the names by which the runs call the file

@@ -15,8 +15,6 @@ from runs.harness import BAD_LINE, Case, Outcome, Report, message, over, printed
 from runs.system_calls import preloaded
 from words.phrases import CLOCK
 
-BREAKS = ("crates/krb_audit/src/young.rt", "crates/krb_text/src/time.rt", "crates/krb_driver/src/beginning.rt")
-
 Row = tuple[Case, dict[str, int]]  # a run, and the settings of its clock
 
 UNREAD = ({"CLOCK": 2**32}, {"CLOCK": 2**64 - 1}, {"FAIL_CLOCK": 1})  # clocks that cannot be read as seconds of 32 bits

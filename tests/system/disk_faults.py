@@ -16,8 +16,6 @@ from system.saving import (GROUP, SAVED, UNREAD, UNSAVED, USER, Owned, Place, at
                            write)
 from words.phrases import CAUSES
 
-BREAKS = ("crates/krb_disk/src/fault.rt", "crates/krb_disk/src/calls", "crates/krb_files/src/cause.rt")
-
 LOOK, OPEN = "?statx,?newfstatat,?stat,?lstat", "?openat,?open"  # what looks at a path, and opens it, whichever exists
 
 

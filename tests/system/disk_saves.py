@@ -14,8 +14,6 @@ from system.saving import (ADD, GROUP, PLACED, SAVED, UNREAD, UNSAVED, USER, Own
                            check_over, explained, faults_over, link, tree_faults, unsaved, write)
 from words.phrases import CAUSES
 
-BREAKS = ("crates/krb_disk/src/save.rt", "crates/krb_disk/src/stage.rt", "crates/krb_disk/src/mode.rt")
-
 ALL = (*CHANGES, *copies(("", TWO, b"", "into no bytes")))  # runs that change a file, the last one of no bytes
 MODES = (0o400, 0o600, 0o640, 0o664, 0o604, 0o6755)  # of files that are replaced by their owner
 

@@ -17,8 +17,6 @@ from system.failing_system_calls import killed, traced_run
 from system.saving import CUT_OFF, EQUAL, LONGER, MIXED, SHORTER, check_over, explained, images, message_of, unsaved
 from words.phrases import AFTERMATHS, CAUSES
 
-BREAKS = ("crates/krb_disk/src/in_place", "crates/krb_disk/src/in_place.rt", "crates/krb_disk/src/patch.rt")
-
 PLACE = re.compile(r"(?:pwrite64\(\d+, .*, \d+|ftruncate\(\d+), (\d+)\) ")  # from where a call writes, or cuts
 CHANGES = ("pwrite64", "ftruncate", "fsync")  # the calls that change a file, whose order is proved
 ERRORS = ("EIO", "ENOSPC", "EDQUOT")

@@ -17,8 +17,6 @@ from runs.undisturbed import IN_PLACE
 from system.early_ends import End, Ends
 from system.saving import reported
 
-BREAKS = ("crates/krb_files", "crates/krb_commands", "crates/krb_driver/src/reporting")
-
 ERRORS = (EINTR, EAGAIN, ENOSPC, ENOMEM, EACCES)
 WHOLE, FEW = 1_000_000, 60  # more bytes than any read or write moves, and few
 NO_OUTPUT = message(3, "cannot write output")

@@ -20,8 +20,6 @@ from system.failing_streams import NO_OUTPUT, ends_in_output
 from system.saving import ADD, UNREAD, UNSAVED, explained, images, run_over, reported, tree, tree_faults, write
 from words.phrases import CAUSES
 
-BREAKS = ("crates/krb_disk",)
-
 ERRORS = ("EIO", "ENOSPC", "EACCES", "EPERM", "EINTR", "ENOMEM")
 
 # The calls that are repeated if they were interrupted, as reads and writes are not.

@@ -18,8 +18,6 @@ from runs.undisturbed import IN_PLACE, Undisturbed, in_place, undisturbed
 from system.saving import (ADD, B_OLD, EQUAL, LONGER, PLACED, SAVED, check_over, edit, refused, run_over, state_of,
                            tree_faults, with_words, write)
 
-BREAKS = ("crates/krb_disk/src/looks/locks.rt", "crates/krb_disk/src/deadline.rt")
-
 LEAST_WAIT = 9  # a run that gives up takes so many seconds at least
 LONGEST_WAIT = 20  # and so many at most, however busy the machine is
 AT_ONCE = 3  # one that needs no hold has ended within so many

@@ -22,8 +22,6 @@ from system.saving import (ADD, B_OLD, EQUAL, GROUP, LINES, LONGER, MIXED, PLACE
 from words.explaining import FINDS_NONE, Explained, copy, no_keytab, unchanged
 from words.phrases import AFTERMATHS, BEGINS_AS_CACHE, CAUSES, LEAVE_OUT, NOT_READ, code, line_fault
 
-BREAKS = ("crates/krb_disk/src/in_place", "crates/krb_disk/src/in_place.rt", "crates/krb_disk/src/replacing.rt")
-
 FULL = keytab(*[HOST] * 79, Entry((b"x" * 14,)))  # a keytab that fills a page of 4,096 bytes but for less than an entry
 TOO_MUCH = undisturbed("ktedit k", SCRIPT, k=FULL, name="adds to a full page")
 LESS = undisturbed("ktedit k", b"cut 2\n", k=FULL, name="removes from a full page")

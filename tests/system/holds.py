@@ -21,9 +21,6 @@ from words.explaining import CUT_CACHE, Explained, case, failed, in_the_way, lin
 from words.phrases import (BAD_DEFAULT, BAD_HEADER, BEGINS_AS_CACHE, BEGINS_AS_NO_CACHE, BEGINS_AS_NO_KEYTAB, CAUSES,
                            ERRORS, GIVEN_DAMAGED, HELD_AS_KEYTAB, LARGE, NOT_WHOLE, SHORT, TO_A_PROGRAM, code)
 
-BREAKS = ("crates/krb_editors/src/hold", "crates/krb_editors/src/hold.rt", "crates/krb_files/src/held_name.rt",
-          "crates/krb_disk/src/held.rt")
-
 UNSEEN = keytab(Entry((b"h",), timestamp=0, enctype=1, key=b""), B)  # a keytab whose entries MIT's programs do not see
 K, PLACED, C = "hold -k k", f"hold {IN_PLACE} -k k", "hold k"  # lines that hold a keytab, in place too, and a cache
 NONE, EMPTY = keytab(), frame(keytab())  # a keytab without an entry, and its frame

@@ -13,8 +13,6 @@ from runs.undisturbed import in_place, undisturbed
 from system.saving import ADD, EQUAL, UNSAVED, explained
 from words.phrases import CAUSES
 
-BREAKS = ("crates/krb_disk/src/looks",)
-
 ADDING = undisturbed(f"{EXPLAIN} ktedit k", SCRIPT, k=OLD)
 
 

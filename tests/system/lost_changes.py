@@ -21,8 +21,6 @@ from system.saving import (ADD, CUT_OFF, EQUAL, LONGER, MIXED, SHORTER, explaine
                            tree_faults, unsaved, with_words)
 from words.phrases import AFTERMATHS, CAUSES
 
-BREAKS = ("crates/krb_disk/src/old.rt", "crates/krb_disk/src/snapshot.rt", "crates/krb_disk/src/patch.rt")
-
 # A run of each command, and lines of ktutil, the last ones at fault and refused.
 TALK = undisturbed("ktutil", b"rkt j\nwkt k\nfrob\nwkt FILE:k\n", j=keytab(B), k=keytab(HOST),
                    name="adds, is at fault, and is refused")

@@ -17,8 +17,6 @@ from runs.undisturbed import undisturbed
 from system.early_ends import NO_MEMORY
 from system.saving import last_line
 
-BREAKS = ("crates/krb_wire/src/memory.rt", "crates/krb_wire/src/limits.rt", "crates/krb_files/src/reader.rt")
-
 STACK = 256 * 1024
 SPACE = 64 * 1024 * 1024
 MANY = 40  # how many of the greatest files a run checks

@@ -17,8 +17,6 @@ from system.saving import (ADD, SAVED, USER, Place, as_another, at, check_over, 
 from words.explaining import Explained, in_the_way_of, unchanged
 from words.phrases import CAUSES
 
-BREAKS = ("crates/krb_disk/src/new_file.rt", "crates/krb_disk/src/target.rt", "crates/krb_disk/src/stage.rt")
-
 STRANGER = 1234  # another user who is not root
 
 

@@ -7,8 +7,6 @@ from caches.cache_listings import of_host
 from makers.images import TICKET, TWO, cache, keytab
 from runs.harness import Outcome, Report, files_in, folder_of, run
 
-BREAKS = ("crates/krb_driver/src/several.rt", "crates/krb_disk/src/looks/locks.rt")
-
 NAMES = [f"f{number}" for number in range(100)]
 
 # The words of each pair, what each file is before them, and after both.

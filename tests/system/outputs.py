@@ -19,8 +19,6 @@ from runs.undisturbed import Undisturbed, undisturbed
 from system.early_ends import End, Ends
 from system.failing_streams import NO_OUTPUT, ends_in_output
 
-BREAKS = ("crates/krb_files/src/output.rt", "crates/krb_files/src/reader.rt")
-
 LONG = undisturbed("klist -k k", k=keytab(*[Entry((b"x" * 992,))] * 300))  # 300 lines of 1000 bytes overfill a pipe
 
 # Runs of ktutil that do not depend on the clock.

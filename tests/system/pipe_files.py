@@ -22,8 +22,6 @@ from system.saving import last_line, tree_faults
 from words.explaining import for_owner
 from words.phrases import CAUSES
 
-BREAKS = ("crates/krb_disk/src/open_file.rt", "crates/krb_disk/src/read.rt")
-
 PIPES, OTHERS = ("pipe", "link"), (".", "/dev/null", "/dev/full/k")  # a pipe and a link to it, and other things
 
 # Lines over several files, and what they print of those that are plain; and an overview of one.

@@ -14,8 +14,6 @@ from runs.harness import EXPLAIN, Outcome, Report, differences, words_of
 from runs.system_calls import Counted, Preloaded, preloaded
 from system.early_ends import NO_MEMORY, Ends
 
-BREAKS = ("crates/krb_wire/src/memory.rt", "crates/wiping", "crates/krb_commands")
-
 SOME = 45  # how many allocations of a run are refused over larger files
 ALL = 5_000  # over small ones, more than there are: all
 WAYS = {"once": {}, "from it on": {"REFUSE_LASTS": 1}}  # settings that refuse one, and those that refuse all from it on

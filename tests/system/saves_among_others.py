@@ -13,8 +13,6 @@ from runs.undisturbed import IN_PLACE, PROGRAM, undisturbed
 from system.saving import (B_NEW, B_OLD, B_SAVED, SAVED, UNSAVED, USER, Place, at, check_over, edit, link, refused,
                            state_of, tree, write)
 
-BREAKS = ("crates/krb_disk/src/replacing.rt", "crates/krb_disk/src/target.rt")
-
 # The calls after which a run is halted, each under a name.
 HALTS = {
     "look": Halt("?statx,?newfstatat,?lstat,?lstat64", paths=("file",)), "making": Halt("openat", paths=("k.krbfile",)),

@@ -7,8 +7,6 @@ from runs.commands import CHANGES, COMMANDS, READS
 from runs.harness import (BAD_LINE, TOP, Case, Line, Outcome, Report, differences, every, message, printed, run,
                           run_case, shown, words_of)
 
-BREAKS = ("crates/krbfile", "crates/krb_driver/src/command_line", "crates/krb_driver/src/command_line.rt")
-
 
 def lines_of(lines: str | list[Line]) -> list[str | Line]:
     """Returns lines, which commas separate where they are one text."""

@@ -12,8 +12,6 @@ from runs.commands import CHANGES
 from runs.harness import TOP, Report, every, folder_of, run
 from words.phrases import FINDINGS
 
-BREAKS = ("completions", "crates/krb_command_line/src/command_lines.rt")
-
 # Each completes the last word of each line of TYPED, and prints `found` and the words on a line; zsh on a terminal.
 BASH = """source "$0"; while IFS= read -r line; do
     COMP_WORDS=($line); [[ $line == *" " ]] && COMP_WORDS+=(""); COMP_CWORD=$((${#COMP_WORDS[@]} - 1)); _krbfile

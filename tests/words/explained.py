@@ -19,8 +19,6 @@ from words.explaining import case, copy, failed, link, no_keytab
 from words.phrases import (BEGINS_AS_CACHE, CAUSES, CLASH, ERRORS, LARGE, OTHER_FILES, SEE_HELP, SHORT, TO_REPLACE,
                            code, line_fault, unknown)
 
-BREAKS = ("crates/krb_driver",)
-
 ADD = f"{ADD_HOST}\n".encode()
 NO_INPUT = {"preexec_fn": lambda: os.dup2(os.open(".", os.O_RDONLY), 0)}  # an input that is a folder cannot be read
 

@@ -8,8 +8,6 @@ from makers.images import B, HOST, keytab
 from pages.readme import installed
 from runs.harness import EXPLAIN, Report, folder_of, printed, run
 
-BREAKS = ("crates/krb_driver/src/reporting/hints.rt", "crates/krb_audit/src/report.rt")
-
 ALL = keytab(replace(HOST, enctype=23), B, B, FIVE)  # a keytab of the three findings that have hints
 REMOVED = printed("removed 2 kvno 3 etype 23 host/a@R")  # what the hints' commands print
 COPIED = printed("copied 2 kvno 3 etype 23 host/a@R", "copied 53 kvno 3 etype 17 b@R",

@@ -8,8 +8,6 @@ from words.command_lines import lines_of
 from words.explaining import Explained
 from words.phrases import code
 
-BREAKS = ("crates/krb_driver/src/command_line", "crates/krb_command_line")
-
 MESSAGE = b"krbfile: bad command line\n"
 KEY = "00112233445566778899aabbccddeeff"  # a word that may be a key
 DIGITS = "a word of hexadecimal digits"  # what is printed in its place

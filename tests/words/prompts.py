@@ -10,8 +10,6 @@ from runs.harness import SECONDS, Outcome, Report, folder_of, piped
 from runs.terminal import all_of
 from words.phrases import NO_ENTRY, NO_PASSWORDS
 
-BREAKS = ("crates/krb_ktutil", "crates/krb_text/src/line_fault.rt", "crates/krb_terminal")
-
 END = "\x04"
 SCRIPT = "krbfile: reading a script; end it with Ctrl-D\n"
 COMMAND, KEY_PROMPT, PASSWORD = "ktutil: ", "Key for a@R (hex): ", "password (not used): "

@@ -10,8 +10,6 @@ from runs.harness import EXPLAIN, Report, differences, folder_of, run
 from runs.terminal import run_on_terminal
 from runs.undisturbed import Undisturbed, undisturbed
 
-BREAKS = ("crates/krb_terminal",)
-
 # What is escaped: each byte below hexadecimal 20 but newlines, 7f, and pairs of c2 and 80 to 9f.
 ESCAPED = re.compile(rb"[\x00-\x09\x0b-\x1f\x7f]|\xc2[\x80-\x9f]")
 # A part of a name, and what a terminal is sent for it: its last c2 begins no pair.
