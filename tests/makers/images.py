@@ -239,10 +239,11 @@ TICKET_VERSION = bytes.fromhex("a003020105")
 TICKET_FIELDS = TICKET_VERSION + bytes.fromhex("a1031b0152 a2163014 a003020102 a10d300b 1b066b7262746774 1b0152")
 
 
-def own_server(name: Name, name_type: bytes = b"\1") -> bytes:
-    """Returns the first fields of a ticket for that server, whose name type is an INTEGER with this content."""
+def own_server(name: Name, name_type: bytes | None = None) -> bytes:
+    """Returns the first fields of a ticket for that server, whose name type may be an INTEGER with another content."""
+    content = integer(name.name_type) if name_type is None else name_type
     strings = b"".join(element(0x1B, component) for component in name.components)
-    sname = element(0xA0, element(2, name_type)) + element(0xA1, element(0x30, strings))
+    sname = element(0xA0, element(2, content)) + element(0xA1, element(0x30, strings))
     return TICKET_VERSION + element(0xA1, element(0x1B, name.realm)) + element(0xA2, element(0x30, sname))
 
 
@@ -255,14 +256,7 @@ def ticket(data: bytes, fields: bytes = TICKET_FIELDS, at: int = -1,
     return data
 
 
-def ticket_fields(name: Name) -> bytes:
-    """Returns the first fields of a ticket for a service."""
-    components = element(0x30, b"".join(element(0x1B, each) for each in name.components))
-    service = element(0x30, element(0xA0, element(2, integer(name.name_type))) + element(0xA1, components))
-    return TICKET_VERSION + element(0xA1, element(0x1B, name.realm)) + element(0xA2, service)
-
-
 def ticket_of(service: Name, etype: int = 17, kvno: int | None = 3, /, **more) -> Credential:
     """Returns a credential with a ticket for a service, by its own bytes too, under a key of that type and version."""
-    own = ticket(encrypted(integer(etype), None if kvno is None else integer(kvno)), ticket_fields(service))
+    own = ticket(encrypted(integer(etype), None if kvno is None else integer(kvno)), own_server(service))
     return replace(TICKET, **{"server": service, "ticket": own, **more})
