@@ -1,5 +1,5 @@
-"""ktutil with somebody at the other end: each line is handled before the next one arrives, also if the run is stopped
-and continued meanwhile."""
+"""Runs with somebody at the other end: ktutil handles each line before the next one arrives, also if it is stopped and
+continued meanwhile. At a terminal it has prompts, and ktedit and ccedit say that they read a script."""
 
 import os
 import pty
@@ -10,9 +10,11 @@ import termios
 import time
 from collections.abc import Callable
 
-from keytabs.ktutil_lines import NO_SLOTS, TWO_LISTED
-from makers.images import TWO
+from keytabs.ktutil_lines import KEY, NO_SLOTS, TWO_LISTED
+from makers.images import TWO, USUAL
 from runs.harness import SECONDS, Outcome, Report, differences, folder_of, piped, short, text
+from runs.terminal import all_of
+from words.phrases import NO_ENTRY, NO_PASSWORDS
 
 LISTED = text(TWO_LISTED)
 MOMENT = 0.05  # how long a run has to reach the point where it waits
@@ -87,8 +89,48 @@ TALKS = {"up to quit": (os.pipe, LINES, b"q\n", Outcome(1), False),
          "stopped at a pipe": (os.pipe, LINES[:2], b"q\n", Outcome(0), True),
          "stopped at a terminal": (terminal, LINES[:2], b"q\n", Outcome(0), True)}
 
+END = "\x04"
+SCRIPT = "krbfile: reading a script; end it with Ctrl-D\n"
+COMMAND, KEY_PROMPT, PASSWORD = "ktutil: ", "Key for a@R (hex): ", "password (not used): "
+ADD, FROM_PASSWORD = (f"addent {word} -p a@R -k 1 -e 17\n" for word in ("-key", "-password"))
+FAULT = f"krbfile: line 1: fault 2\nkrbfile: line 1: {NO_PASSWORDS}\n"
+
+# Words, what is typed, and what is on the terminal then, which does not show what is typed.
+TYPED = (
+    ("ktutil", "q\n", COMMAND), ("ktutil", f"\nl\n{END}", COMMAND * 3 + "\n"),
+    ("ktutil", f"{ADD}{KEY}\nexit\n", COMMAND + KEY_PROMPT + COMMAND),
+    ("ktutil", f"{ADD}{END}{END}", COMMAND + KEY_PROMPT + "\n"),
+    ("ktutil", f"{FROM_PASSWORD}quit\nq\n", COMMAND + FAULT + PASSWORD + COMMAND),
+    ("ktutil", FROM_PASSWORD + END, COMMAND + FAULT + PASSWORD + "\n"),
+    ("ktutil", "wkt n\nq\n", f"{COMMAND}krbfile: line 1: {NO_ENTRY.replace('NAME', 'n')}\n{COMMAND}"),
+    ("ktedit k", f"start\n{END}", SCRIPT), ("ccedit c", END, SCRIPT),
+    ("ktedit k", f"frob\n{END}", f'{SCRIPT}krbfile: line 1: fault 1\nkrbfile: unknown first word: "frob"\n'),
+    ("klist -k k", "", ""), ("hold -k k", END, ""),
+)
+
+
+def typed(program: str, words: str, lines: str, folder: str, shows_errors: bool) -> Outcome:
+    """Makes a run whose input is a terminal, and its error output too if it `shows_errors`."""
+    theirs, ours = terminal()
+    os.write(ours, lines.encode())
+    errors = theirs if shows_errors else subprocess.PIPE
+    try:
+        with piped(program, words.split(), folder, stdin=theirs, stderr=errors) as process:
+            os.close(theirs)
+            out, err = process.communicate(timeout=SECONDS)
+        return Outcome(process.returncode, out, all_of(ours) if shows_errors else err)
+    finally:
+        os.close(ours)
+
 
 def check(report: Report, program: str) -> None:
-    """Makes each talk."""
+    """Makes each talk, and types each; nothing asks for what is typed where the error output is a pipe."""
     for name, talk in TALKS.items():
         report.check(f"ktutil answers line by line, {name}", faults_of_talk(program, *talk))
+    for words, lines, wanted in TYPED:
+        with folder_of({"k": TWO, "c": USUAL}) as folder:
+            got = typed(program, words, lines, folder, True)
+            report.check(f"{words}, {lines!r}", [] if got.err.decode() == wanted else [f"{got}, not {wanted!r}"])
+            silent = typed(program, words, lines, folder, False)
+            prompts = [each for each in (COMMAND, KEY_PROMPT, PASSWORD, SCRIPT) if each.encode() in silent.err]
+            report.check(f"{words}, {lines!r}: no prompt in a pipe", prompts)

@@ -1,13 +1,15 @@
 """`ktcheck` over several keytabs: each finding, a label on each line, what is explained once, what is left out or
-allowed, JSON, and what ends the run."""
+allowed, JSON, and what ends the run. A shell runs the commands of hints."""
 
 import os
+import re
 from dataclasses import replace
 
 from keytabs.removals import FIVE
 from makers.images import B, HOST, TWO, hole, keytab
 from names.named_files import NEITHER
-from runs.harness import Line, text
+from pages.readme import installed
+from runs.harness import EXPLAIN, Line, Report, folder_of, printed, run, text
 from words.explaining import FAILED, FULL, Explained, Output, over_files
 from words.phrases import BEGINS_AS_NO_KEYTAB, CAUSES, FAULTS, FINDINGS, HINTS, NOT_READ
 
@@ -106,3 +108,23 @@ CASES = [
         ("no k x", [MISSING, FAILED], 3), ("--json k no", [FAILED], 3), ("--json -q k e o", [], 0),
         ("-q no k . o w x", [MISSING, UNREAD, FAILED], 3))),
 ]
+
+HINTED = keytab(RC4, B, B, FIVE)  # a keytab of the three findings that have hints
+REMOVED = printed("removed 2 kvno 3 etype 23 host/a@R")  # what the hints' commands print
+COPIED = printed("copied 2 kvno 3 etype 23 host/a@R", "copied 53 kvno 3 etype 17 b@R",
+                 "copied 98 kvno 5 etype 17 host/a@R")
+
+# Words for files.
+WORDS = ("./k", "AZaz09_-.:@%+,=", "''a", "$HOME", "`id`", "*", "~", "#k", "-k", "--", "-'", "FILE:FILE:k",
+         "FILE:ab:it's", "".join(map(chr, range(32, 127))).replace("/", "").replace("\\", ""))
+
+
+def check(report: Report, program: str) -> None:
+    """Has a shell run the commands of the hints, beside no other file."""
+    for word in WORDS:
+        with folder_of({re.sub("^(WR)?FILE:", "", word): HINTED}) as folder, installed(program) as env:
+            hints = run(program, (EXPLAIN, "ktcheck", "--", word), folder).err.decode()
+            commands = re.findall(r"^krbfile: to .*: (krbfile (?s:.+?))\n(?=krbfile: to|\Z)", hints, re.MULTILINE)
+            report.check(f"the hints for {word!r}", [] if len(commands) == 3 else [f"{commands}"])
+            for command, wanted in zip(commands, (REMOVED, REMOVED, COPIED)):
+                report.compare(command, wanted, run("sh", ("-c", command), folder, env=env))

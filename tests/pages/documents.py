@@ -1,5 +1,6 @@
 """What the documents name exists: the files of their links, headings, files and tests, and what is between
-backticks. Each piece of code on a page is in the sources. The map has each crate in its place."""
+backticks. Each piece of code on a page is in the sources. The map has each crate in its place, and some recipe of
+CONTRIBUTING names each file that has its example."""
 
 import glob
 import os
@@ -11,6 +12,16 @@ from topics import breaks, of_change, parts
 
 MAP = os.path.join("docs", "DESIGN.md")
 PROVED = "crates/library_tests/src/tests/readme.rt"  # the proved code of the pages that lead to no source
+
+PAGE = "CONTRIBUTING.md"
+RECIPE = re.compile(r"^### ([^,\n]*).*\n((?s:.*?))(?=^##)", re.MULTILINE)
+FILES = re.compile(r"`((?:crates|docs|examples|python|tests)/[^` ]+|[A-Z]+\.md)`")  # a file or some, from the top
+
+# Where the examples of recipes are looked for, and how they are named.
+SOURCES = ("*.md", "docs/*", "examples/*", "python/*/*.py", "crates/*/CALLING.md", "crates/*/src/**/*.rt",
+           "crates/*/specs/*.antt", "crates/samples/proofs/*.antt", "tests/*/*.py")
+EXAMPLES = {"A command": r"(?i)ktdiff", "An option": r'--age\b|"age\b', "A column of show": r"\bSESSION\b",
+            "A mistake in a command line": r"(?i)\bonly_with\b", "An encryption type": "camellia256"}
 
 
 def read(path: str) -> str:
@@ -92,11 +103,28 @@ def check_topics(report: Report) -> None:
     report.check("the sources and pages that no topic names", [path for path in files if not of_change(path)])
 
 
+def expanded(path: str) -> list[str]:
+    """Returns the files that a path with braces names."""
+    front, brace, rest = path.partition("{")
+    inner, _, end = rest.partition("}")
+    return [front + each + end for each in inner.split(",")] if brace else [path]
+
+
+def check_recipes(report: Report) -> None:
+    """Checks that the files of the recipes exist, and that those of each are all that have its example."""
+    recipes = {name: {each for path in FILES.findall(text) for each in expanded(path)}
+               for name, text in RECIPE.findall(read(PAGE))}
+    for name, files in recipes.items():
+        report.check(f"the files of {name}", sorted(it for it in files if not os.path.isfile(os.path.join(TOP, it))))
+    for name, example in EXAMPLES.items():
+        found = {it for it in paths(*SOURCES) if re.search(example, read(it))} - {PAGE, "tests/pages/documents.py"}
+        report.check(f"what has the example of {name}", sorted(found - recipes.get(name, set())))
+
+
 def check(report: Report, program: str) -> None:
     """Reads the documents and the sources. The program is not run."""
-    check_map(report)
-    check_topics(report)
-    check_list(report)
+    for each in (check_map, check_topics, check_list, check_recipes):
+        each(report)
     pages = paths("*.md", "*/README.md", "docs/*.md", "crates/*/CALLING.md")
     for path in pages:
         report.check(f"the links of {path}", faults_of_links(path, read(path)))
