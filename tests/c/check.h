@@ -1,14 +1,12 @@
-/* What the C tests share: a check that ends the program, a key and numbers, and images from files and of both kinds. */
+/* What the C tests share: a check that ends the program, a key and numbers, and the images of both kinds. */
 #ifndef CHECK_H
 #define CHECK_H
 
 #include "krbfile.h"
 
-#include <fcntl.h>
 #include <stdio.h>
 #include <stdlib.h>
 #include <string.h>
-#include <unistd.h>
 
 #define CHECK(it)                                                                                                      \
     do {                                                                                                               \
@@ -25,16 +23,7 @@
 static const uint8_t KEY[16] = {0, 1, 2, 3, 4, 5, 6, 7, 8, 9, 10, 11, 12, 13, 14, 15};
 static const krbf_numbers NUMBERS = {17, 1, 0, 2, 0, 0, 0};
 
-static uint8_t image[1 << 24];
-
-/* Reads a file into image, without a buffer of the C library's, and answers its length. */
-static inline size_t read_image(const char *name) {
-    int file = open(name, O_RDONLY);
-    ssize_t len = read(file, image, sizeof image);
-    CHECK(file >= 0 && len >= 0);
-    close(file);
-    return (size_t)len;
-}
+static uint8_t image[1 << 12];
 
 /* Puts the images of a keytab and a cache into image, one behind the other, and answers their length. */
 static inline size_t put_images(krbf_keytab *kt, krbf_ccache *cc) {

@@ -1,5 +1,5 @@
 /* Each call that takes bytes is given none, and some that lie in its own keytab or cache: it does what it does with a
- * copy of them. Run under gcc's sanitizers, and under valgrind. */
+ * copy of them. What is added is found with all its parts. Run under gcc's sanitizers, and under valgrind. */
 #include "check.h"
 
 static krbf_keytab kt = KRBF_NONE;
@@ -164,9 +164,54 @@ static void caches(void) {
     CHECK(krbf_cc_close(&cc) == KRBF_DONE && krbf_cc_close(&cc) == KRBF_DONE);
 }
 
+static const char NAME[] = "c/abi@EXAMPLE.ORG";
+static const krbf_numbers LASTING = {17, 1700000000, 0, 1700036000, 0, 0x40e00000, 0};
+
+static void entry_parts(void) {
+    uint32_t cursor = KRBF_FIRST;
+    krbf_entry entry;
+    krbf_bytes part;
+    char room[] = "........";
+    CHECK(krbf_kt_create(0, &kt) == KRBF_DONE);
+    CHECK(krbf_kt_add(&kt, TEXT(NAME), 1700000000, 200, 17, KEY, sizeof KEY, &place) == KRBF_DONE);
+    CHECK(krbf_kt_find(&kt, TEXT(NAME), 0, 17, &entry) == KRBF_DONE);
+    CHECK(entry.place == place && entry.kvno == 200 && entry.timestamp == 1700000000);
+    CHECK(entry.enctype == 17 && entry.name_type == 1 && entry.components == 2);
+    CHECK(entry.key.len == sizeof KEY && !memcmp(entry.key.at, KEY, sizeof KEY));
+    CHECK(is_text(entry.realm, "EXAMPLE.ORG"));
+    CHECK(krbf_kt_component(&kt, place, 1, &part) == KRBF_DONE && is_text(part, "abi"));
+    CHECK(krbf_kt_component(&kt, place, 2, &part) == KRBF_NOT_FOUND && is_text(part, "abi"));
+    CHECK(krbf_kt_name(&kt, place, room, 5, &len) == KRBF_DONE && len == strlen(NAME));
+    CHECK(!memcmp(room, "c/abi...", 8));
+    CHECK(krbf_kt_next(&kt, &cursor, &entry) == KRBF_DONE && entry.place == place);
+    CHECK(krbf_kt_next(&kt, &cursor, &entry) == KRBF_END);
+    krbf_kt_close(&kt);
+}
+
+static void ticket_parts(void) {
+    uint32_t cursor;
+    krbf_ticket ticket;
+    char room[3];
+    CHECK(krbf_cc_create(TEXT("u@R"), 0, &cc) == KRBF_DONE);
+    CHECK(krbf_cc_store(&cc, TEXT("u@R"), TEXT(NAME), KEY, sizeof KEY, (const uint8_t *)TEXT("tkt"), KEY, 0, &LASTING,
+                        &place) == KRBF_DONE);
+    CHECK(krbf_cc_find(&cc, TEXT(NAME), &ticket) == KRBF_DONE && ticket.place == place);
+    CHECK(ticket.enctype == 17 && ticket.authtime == 1700000000 && ticket.endtime == 1700036000);
+    CHECK(ticket.flags == 0x40e00000 && !ticket.is_skey && !ticket.is_config);
+    CHECK(ticket.key.len == sizeof KEY && !memcmp(ticket.key.at, KEY, sizeof KEY));
+    CHECK(is_text(ticket.ticket, "tkt") && ticket.second_ticket.len == 0);
+    CHECK(krbf_cc_client(&cc, place, room, sizeof room, &len) == KRBF_DONE && len == 3 && !memcmp(room, "u@R", 3));
+    krbf_cc_first(&cc, &cursor);
+    CHECK(krbf_cc_next(&cc, &cursor, &ticket) == KRBF_DONE && ticket.place == place);
+    CHECK(krbf_cc_next(&cc, &cursor, &ticket) == KRBF_END);
+    krbf_cc_close(&cc);
+}
+
 int main(void) {
     keytabs();
     caches();
+    entry_parts();
+    ticket_parts();
     make();
     for (size_t at = 0; at < sizeof CALLS / sizeof *CALLS; at++)
         check(CALLS[at]);

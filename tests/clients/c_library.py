@@ -1,4 +1,4 @@
-"""The C library: C programs over it beside `krbfile`, with refused memory, and a search for keys left in memory."""
+"""The C library: C programs over it, with refused memory, and a search for keys left in memory."""
 
 import fcntl
 import os
@@ -9,11 +9,10 @@ from dataclasses import replace
 
 from clients.c_exports import prototypes
 from keytabs.ktutil_lines import KEY
-from makers.images import HOST, PA_TYPE, TICKET, TWO, USUAL, cache, keytab
+from makers.images import HOST, TWO, USUAL, keytab
 from makers.samples import SAMPLES
 from pages.documents import literals
 from pages.readme import installed, no_library
-from peers import corpus
 from runs.harness import SECONDS, TOP, Outcome, Report, differences, every, files_in, folder_of, message, run
 from runs.undisturbed import frame
 from system.saving import owned, tree_faults
@@ -55,19 +54,6 @@ def check_symbols(report: Report, _program: str) -> None:
     faults = [] if "soname: [libkrbfile.so.1]" in dynamic.stdout else ["it has no such soname"]
     faults += ["it has text relocations"] if "TEXTREL" in dynamic.stdout else []
     report.check("the shared library's name", faults)
-
-
-def check_lists(report: Report, program: str, folder: str) -> None:
-    """Compares listings by C with those of `klist`, and then checks what is added, under gcc's sanitizers."""
-    built = build(folder, "lists", *SANITIZED)
-    samples = (data for name, data in SAMPLES.items() if name.endswith(".keytab"))
-    images = {"-k": (*samples, *corpus.images("keytab"), b"", b"\5", USUAL),
-              "-c": (USUAL, cache(TICKET, PA_TYPE), *corpus.images("ccache"), b"", b"\5\4\0", TWO)}
-    for option, image in ((option, image) for option, those in images.items() for image in those):
-        with folder_of({"f": image}) as at:
-            wanted, got = run(program, ("klist", option, "f"), at), run(built, (option, "f"), at)
-        faults = [] if wanted.err and got.status == 2 and got.out else differences(wanted, got)
-        report.check(f"lists.c {option} over an image of {len(image)} bytes", faults)
 
 
 # Runs of the program that move keys, which are the bytes 0 to 15 as in all images of these tests.
@@ -142,7 +128,6 @@ def check_keys(report: Report, program: str, folder: str) -> None:
 def check_programs(report: Report, program: str) -> None:
     """Makes the checks by the programs of tests/c, which are built in one folder."""
     with folder_of({}) as folder:
-        check_lists(report, program, folder)
         check_given(report, folder)
         check_keys(report, program, folder)
 
