@@ -50,12 +50,6 @@ def prototypes() -> dict[str, Signature]:
             for answer, name, words in PROTOTYPE.findall(read("c/krbfile.h"))}
 
 
-def shown() -> dict[str, Signature]:
-    """Returns the calls of the manual page's synopsis, by name."""
-    return {name: (answer, tuple(kind_of(word) for word in re.findall(r'"([^"]*)"', words)))
-            for answer, name, words in SYNOPSIS.findall(read("docs/krbfile.3"))}
-
-
 def statuses() -> dict[str, int]:
     """Returns the statuses of the sources, by the names that the header gives them."""
     found = dict(STATUSES)
@@ -71,7 +65,9 @@ def check(report: Report, _program: str) -> None:
     others = [f"{name} is not {number}" for name, number in numbers.items() if due.get(name) != number]
     report.check("the statuses of krbfile.h", others)
     declared, there = prototypes(), exports()
-    wrong = sorted(name for name in declared.keys() | shown() if declared.get(name) != shown().get(name))
+    shown = {name: (answer, tuple(kind_of(word) for word in re.findall(r'"([^"]*)"', words)))
+             for answer, name, words in SYNOPSIS.findall(read("docs/krbfile.3"))}
+    wrong = sorted(name for name in declared.keys() | shown if declared.get(name) != shown.get(name))
     report.check("the synopsis of krbfile(3)", wrong)
     for name in sorted(declared.keys() | there.keys()):
         got, due = declared.get(name), there.get(name)

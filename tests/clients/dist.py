@@ -130,11 +130,6 @@ def check_hardened(report: Report, _program: str) -> None:
         report.check(f"{name} is bound at once", [] if re.search(rb"FLAGS_1.*\bNOW\b", got.out) else [f"{got}"])
 
 
-def no_build() -> str:
-    """Returns that Debian's python3 has no module to build wheels, or nothing."""
-    return "python3-build is not there" if run("/usr/bin/python3", ("-m", "build", "--version"), TOP).status else ""
-
-
 def not_built() -> str:
     """Returns that not all is built, or nothing."""
     missing = [name for name in BUILT if not os.path.exists(os.path.join(TOP, name))]
@@ -146,4 +141,5 @@ check = every(every(check_static, of="the static program", needs=(STATIC,), lack
               every(check_packed, check_installed, of="the archive", needs=("make",), lack=not_built),
               every(check_debian, of="Debian's packages", needs=("make", "dpkg-deb"),
                     lack=lambda: not_built() or no_mounts()),
-              every(check_wheel, of="the wheel", needs=("make",), lack=no_build))
+              every(check_wheel, of="the wheel", needs=("make",), lack=lambda: "python3-build is not there" * (
+                  run("/usr/bin/python3", ("-m", "build", "--version"), TOP).status != 0)))

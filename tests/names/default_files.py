@@ -16,7 +16,7 @@ from system.saving import write
 from words.explaining import Explained, unchanged
 from words.phrases import DEFAULT
 
-CCNAME, KTNAME = Kind.CACHE.variable, Kind.KEYTAB.variable
+CCNAME, KTNAME = Kind.CACHE.value, Kind.KEYTAB.value
 CACHE = IMAGES[Kind.CACHE]
 KEYTAB = FileName("/etc/krb5.keytab", source=DEFAULT)
 USER = 4_000_123_456  # a user whom no system has
@@ -38,7 +38,7 @@ def bad(words: str | Line, env: dict[str, str | bytes], phrase: str) -> Explaine
 
 CASES = [
     # The value of the variable that is read is not UTF-8.
-    *(bad(each.words(None), {each.kind.variable: value}, f"{each.kind.variable} is not UTF-8")
+    *(bad(each.words(None), {each.kind.value: value}, f"{each.kind.value} is not UTF-8")
       for each in DEFAULTS for value in (b"\xff", b"FILE:c\xc3")),
     # What is wrong with a line comes first, and other commands want the file.
     *(bad(words, {CCNAME: b"\xff", KTNAME: b"\xff"}, phrase) for words, phrase in (

@@ -18,7 +18,7 @@ from words.phrases import BEGINS_AS_NO_KEYTAB, LEAVE_OUT, NAMED, NOT_READ, code,
 # Words that every command is tried with, and its variable; the listings are tried with all.
 SOME = ("FILE:FILE:k", "WRFILE:k", "./FILE:k", "C:k", 'ключ "\\:k', "KCM:k", "DIR::k", "DIR:k", "FILE:", "")
 # What no run looks at, but for the variable of its kind where the file is left out.
-IGNORED = {"KRB5_CLIENT_KTNAME": b"\xff", **{kind.variable: b"\xff" for kind in Kind}}
+IGNORED = {"KRB5_CLIENT_KTNAME": b"\xff", **{kind.value: b"\xff" for kind in Kind}}
 
 
 def decoys(word: str, name: str) -> dict[str, bytes]:
@@ -37,11 +37,11 @@ def rows() -> Iterator[Explained]:
         for word, place in (*places, ("k", NEITHER)):
             name = named(word, *command.kinds)
             if variable:
-                name = replace(name, source=NAMED.replace("VARIABLE", command.kind.variable))
+                name = replace(name, source=NAMED.replace("VARIABLE", command.kind.value))
             # What is under a name of another type is never read; under that of a type alone nothing is.
             if (place is None) == (name.text == "") or place is None and not name.other:
                 yield command.row(name, place, None if variable else word, decoys(word, name.text),
-                                  IGNORED | ({command.kind.variable: word} if variable else {}))
+                                  IGNORED | ({command.kind.value: word} if variable else {}))
 
 
 def not_read(name: str) -> str:

@@ -18,15 +18,10 @@ from words.phrases import (BEGINS_AS_NO_CACHE, BEGINS_AS_NO_KEYTAB, CAUSES, COLL
 
 
 class Kind(Enum):
-    """A kind of file, and the variable that names the default."""
+    """A kind of file, by the variable that names the default."""
 
     KEYTAB = "KRB5_KTNAME"
     CACHE = "KRB5CCNAME"
-
-    @property
-    def variable(self) -> str:
-        """The variable."""
-        return self.value
 
 
 @dataclass(frozen=True)

@@ -27,11 +27,6 @@ ends = partial(replace, TICKET, authtime=NOW - 9, endtime=0)
 OWN = ticket(encrypted(b"\x12"), own_server(Name((b"h", b"b"), b"S")))  # a ticket that names h/b@S itself
 
 
-def of_type(*numbers: bytes) -> bytes:
-    """Returns a ticket with an encryption type of its own, and perhaps a key version."""
-    return ticket(encrypted(*numbers))
-
-
 def added(kvno: int, **more: int) -> Entry:
     """Returns an entry of that version, made ten days ago unless another time is given."""
     return replace(Entry(version8=kvno, version32=kvno), **{"timestamp": NOW - 864_000, **more})
@@ -62,8 +57,9 @@ KEYTABS = {
 CACHES = {
     ("0 tickets", (PA_TYPE, TICKET.removed())): "",
     ("1 ticket", (PA_TYPE, TICKET)): of_tickets("ended 9 d ago|-|aes128|-|krbtgt/R@R", widths=(13, 5, 7, 6)),
-    ("6 tickets", (ends(ticket=of_type(b"\x12", b"\2")), ends(starttime=NOW + 5, ticket=of_type(b"\x17")),
-                   ends(endtime=NOW, ticket=of_type(b"\x80")), ends(endtime=NOW + 7_200, renew_till=NOW + 1),
+    ("6 tickets", (ends(ticket=ticket(encrypted(b"\x12", b"\2"))),
+                   ends(starttime=NOW + 5, ticket=ticket(encrypted(b"\x17"))),
+                   ends(endtime=NOW, ticket=ticket(encrypted(b"\x80"))), ends(endtime=NOW + 7_200, renew_till=NOW + 1),
                    ends(endtime=NOW + 7_200, starttime=NOW + 120, renew_till=NOW, enctype=1),
                    ends(endtime=NOW + 1, authtime=NOW + 1, server=Name((b"h", b"a")), enctype=77, renew_till=1))):
         of_tickets("-|-|aes128|aes256 kvno 2|krbtgt/R@R", "-|-|aes128|rc4!|krbtgt/R@R",

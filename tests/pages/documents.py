@@ -96,7 +96,7 @@ def check_list(report: Report) -> None:
 
 def check_topics(report: Report) -> None:
     """Checks that each topic names what it is the first to notice, and that each source and page is named."""
-    report.check("the topics without a row in breaks.txt", [topic for topic, names in breaks().items() if not names[1:]])
+    report.check("the topics with no row in breaks.txt", [topic for topic, names in breaks().items() if not names[1:]])
     report.check("the paths in breaks.txt that do not exist",
                  sorted({name for names in breaks().values() for name in names if not parts(name)}))
     files = paths("crates/*/src/**/*.rt", "*.md", "*/README.md", "docs/*", "crates/*/CALLING.md")

@@ -202,8 +202,10 @@ def faults_of_random(program: str, random: Random) -> list[str]:
         return [f"{image.hex()}: {fault}" for fault in found]
 
 
-def in_realm(what: str, *checks: Callable[[Report, str, Realm], None], more: tuple[str, ...] = ()) -> Check:
-    """Returns a check that makes those in a realm with its principals and more of them, if MIT's programs are there."""
+def in_realm(what: str, *checks: Callable[[Report, str, Realm], None], more: tuple[str, ...] = (),
+             tools: tuple[str, ...] = ()) -> Check:
+    """Returns a check that makes those in a realm with its principals and more of them, if MIT's programs are there,
+    and more of these."""
     def check(report: Report, program: str) -> None:
         try:
             with realm(more) as made:
@@ -212,7 +214,7 @@ def in_realm(what: str, *checks: Callable[[Report, str, Realm], None], more: tup
         except Failed as failed:
             report.check(f"MIT's programs in a realm made here: {what}", [str(failed)])
 
-    return every(check, of=what, lack=lambda: lack(*TOOLS))
+    return every(check, of=what, lack=lambda: lack(*TOOLS, *tools))
 
 
 def check(report: Report, program: str) -> None:

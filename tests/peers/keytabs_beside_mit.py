@@ -1,4 +1,5 @@
-"""Keytabs that ours changed, and entries that ktcheck calls hidden, beside MIT's programs."""
+"""Keytabs that ours changed, and entries that ktcheck calls hidden, beside MIT's programs; and what README's first
+lines say of these, and that ours do otherwise."""
 
 import re
 import sys
@@ -11,9 +12,9 @@ from keytabs.listings import BY_NAME, KEY_SIZES
 from keytabs.copies import OTHER, THIRD
 from keytabs.edits import ADD_B, ADD_C, ADD_HOST
 from makers.images import B, BIG, END, HOST, LITTLE, TWO, Entry, keytab, old
-from peers.beside_mit import Mit, are_there, as_json, check_seeds, entries, lack
+from peers.beside_mit import SURROUNDINGS, Mit, are_there, as_json, check_seeds, entries, lack, mit_klist
 from peers.caches_beside_mit import REALM, Failed, Realm, in_realm
-from runs.harness import EXPLAIN, Report, every, files_in, folder_of, run, text
+from runs.harness import EXPLAIN, Report, every, files_in, folder_of, printed, run, text
 from runs.undisturbed import preload_library, undisturbed
 
 # Entries of each enctype that has a name, with quoted names, and versions of more than 8 bits.
@@ -191,5 +192,25 @@ def check_old(report: Report, program: str, made: Realm) -> None:
                     partial(faults_of_removal, program, made))
 
 
+def check_readme(report: Report, program: str) -> None:
+    """Runs MIT's programs, and ours over the same files."""
+    mit = partial(run, env=SURROUNDINGS)
+    with folder_of({"d": TWO + b"\0\0", "a": TWO, "b": keytab(HOST, replace(B, timestamp=1))}) as folder:
+        listed = mit("klist", ("-k", "d"), folder)
+        report.check("klist ends silently at damage", [f"{listed}"] * (listed.status != 0 or listed.err != b""))
+        ours = run(program, ("klist", "-k", "d"), folder)
+        report.check("ours reports it", [f"{ours}"] * (ours.status != 1 or not ours.out.endswith(b"\nfault 1 at 98\n")))
+        merged = mit("ktutil", (), folder, b"rkt no\nrkt a\nrkt b\nwkt n\nq\n")
+        report.check("ktutil ends with 0", [f"{merged}"] * (merged.status != 0 or b"No such" not in merged.err))
+        entries = mit_klist(folder, "-kt", "n").decode().splitlines()[3:]
+        report.check("ktutil merges with doubles", [f"{entries}"] * (len(entries) != 4))
+        report.check("ktutil sets times to now", [each for each in entries if "11/14/23" in each or "01/01/70" in each])
+        report.compare("ours merges without", printed(), run(program, ("ktcopy", "b", "a"), folder))
+        gone = mit("k5srvutil", ("-f", "a", "delold"), folder)
+        report.check("delold wants the admin server", ["it goes"] * (gone.status == 0))
+
+
 check = every(every(check_read, check_same, check_hidden, of="keytabs beside MIT's programs", lack=lack),
+              every(check_readme, of="what README says of MIT's programs",
+                    lack=partial(lack, "klist", "ktutil", "k5srvutil")),
               in_realm("copies used by MIT's programs", check_used, check_old))

@@ -11,7 +11,7 @@ from dataclasses import replace
 from random import Random
 
 from makers.images import Entry, keytab
-from peers.beside_mit import SEEDS, are_there, as_json
+from peers.beside_mit import SEEDS, as_json
 from peers.caches_beside_mit import ETYPES, HOST, REALM, USER, Realm, in_realm
 from runs.harness import Report, folder_of, run
 from system.saving import write
@@ -65,7 +65,4 @@ def check_opened(report: Report, program: str, made: Realm) -> None:
     report.check(f"{WHAT}: cases", [] if min(counts) >= 200 and len(entries) == 2 * len(caches) else [f"{counts}"])
 
 
-def check(report: Report, program: str) -> None:
-    """Runs this topic if MIT's programs are installed."""
-    if are_there(report, WHAT, "kadmin.local"):
-        in_realm(WHAT, check_opened, more=("svc/H", ONCE))(report, program)
+check = in_realm(WHAT, check_opened, more=("svc/H", ONCE), tools=("kadmin.local",))

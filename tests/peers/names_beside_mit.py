@@ -49,12 +49,12 @@ def check_value(kind: Kind, word: str, report: Report, program: str) -> None:
     names = {os.path.normpath(each) for each in (word, word.partition(":")[2], "k") if each}
     for files in ({}, {each: IMAGES[kind] for each in names if "/" not in each}):
         with folder_of(files) as folder:
-            theirs, ours = (klist(kind, folder, {kind.variable: word}, each) for each in ("", program))
+            theirs, ours = (klist(kind, folder, {kind.value: word}, each) for each in ("", program))
         is_right = taken(ours) == taken(theirs) != (None, False)
         if not OF_FILES[kind].match(word):
             own = named(word, kind).text.encode()
             is_right = theirs.status == 1 and REFUSES.search(theirs.err) and taken(ours)[0] == own
-        report.check(f"klist {kind.variable}={word!r}, {len(files)} files",
+        report.check(f"klist {kind.value}={word!r}, {len(files)} files",
                      [] if is_right else [f"MIT's: {theirs}, ours: {ours}"])
 
 
@@ -64,9 +64,9 @@ def check_defaults(report: Report, program: str) -> None:
     with folder_of({"k": TWO, "c": IMAGES[Kind.CACHE], "\udcff": TWO, "conf": CONFIGURATION}) as folder:
         for kind, own, configured in ((Kind.KEYTAB, b"/etc/krb5.keytab", b"k"),
                                       (Kind.CACHE, b"/tmp/krb5cc_%d" % os.getuid(), b"c")):
-            for env, to_mit in (({}, own), ({kind.variable: ""}, b""), ({"KRB5_CONFIG": "conf"}, configured)):
+            for env, to_mit in (({}, own), ({kind.value: ""}, b""), ({"KRB5_CONFIG": "conf"}, configured)):
                 found = [taken(klist(kind, folder, env, each))[0] for each in ("", program)]
-                report.check(f"klist with {env}, {kind.variable}", [] if found == [to_mit, own] else [f"{found}"])
+                report.check(f"klist with {env}, {kind.value}", [] if found == [to_mit, own] else [f"{found}"])
         for value, wanted in ((b"\xff", message(2, "bad command line")),
                               (b"MEMORY:k", message(1, "MEMORY:k: no such file"))):
             theirs, ours = (klist(Kind.KEYTAB, folder, {"KRB5_KTNAME": value}, each) for each in ("", program))

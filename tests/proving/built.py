@@ -58,11 +58,6 @@ def built_of(crate: str) -> list[str]:
     return [compiler.library(crate), path, f"{path}.o", os.path.join(folder_of(crate), "out", f"lib{crate}.a")]
 
 
-def is_whole(path: str) -> bool:
-    """Whether a program, or all of a library, is there."""
-    return compiler.is_whole(path) if path.endswith(".rlib") else os.path.isfile(path)
-
-
 def copy_built(there: str, path: str) -> None:
     """Copies a library or a file that was built, as made now."""
     new = f"{path}.new"
@@ -81,7 +76,7 @@ def take(top: str) -> tuple[list[str], list[str]]:
     for crate in sorted(compiler.crates(), key=lambda it: len(compiler.below(it))):
         if other.isdisjoint({crate, *compiler.below(crate)}):
             pairs = [(in_clone(path, top), path) for path in built_of(crate) if not is_made(crate, path)]
-            those = [pair for pair in pairs if is_whole(pair[0]) and is_made(crate, pair[0], top)]
+            those = [pair for pair in pairs if compiler.is_whole(pair[0]) and is_made(crate, pair[0], top)]
             for pair in those:
                 copy_built(*pair)
             found += [crate] if those else []

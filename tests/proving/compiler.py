@@ -23,8 +23,8 @@ VERDICT = re.compile(r"^fn \w+::(\S+): (.*)", re.M)
 # A function that is proved by hand has no open goals: its proof is refused.
 BY_HAND = re.compile(r"\./proofs/(\S+)/(?:Proof|Answers)\.antt:\S+ error: ")
 BAD_LEMMA = re.compile(r"\./proofs/(\w+)\.antt:\S+ error: `([\w-]+)`")
-# A goal's name has its branch in it; the clause's name does not.
-GOAL = re.compile(r"(returns|.*?-requires)(?:-.*?)??(-clause-[\w-]+)?")
+# A goal's name has its branch in it; the clause's name, of both groups, does not. A loop's goals keep their names.
+GOAL = re.compile(r"^(returns|.*?-requires)(?:-.*?)??(-clause-[\w-]+)?$")
 ENDED = re.compile(r"^only=\d+ proved=\d+$", re.M)
 REJECTED = re.compile(r"^(?:error\b.*|(?:\./)?src/\S+: error.*)", re.M)
 
@@ -72,8 +72,8 @@ def below(crate: str) -> set[str]:
 
 
 def is_whole(path: str) -> bool:
-    """Whether all of a library is there: `rt ci` may write it file by file, this one last."""
-    return os.path.isfile(os.path.join(path, "toolchain", "mir.json"))
+    """Whether a program, or all of a library, is there: `rt ci` may write it file by file, this one last."""
+    return os.path.isfile(path) or os.path.isfile(os.path.join(path, "toolchain", "mir.json"))
 
 
 def is_proved(crate: str) -> bool:
@@ -112,12 +112,6 @@ def command(verb: str, crate: str, jobs: int, name: str = "", as_sources: Collec
     return [*words, "--crate-type", kind] if kind else words
 
 
-def clause_of(goal: str) -> str:
-    """Returns the name of the clause that a goal belongs to. A loop's goals keep their names."""
-    found = GOAL.fullmatch(goal)
-    return found[1] + (found[2] or "") if found else goal
-
-
 def clauses_of(output: str) -> dict[str, list[str]]:
     """Returns the open clauses of each function that is not proved, and the refused lemmas of each module of proofs.
 
@@ -137,7 +131,7 @@ def clauses_of(output: str) -> dict[str, list[str]]:
             goals = before + (re.findall(r"`([\w-]+)`", listed[1]) if listed else [])
             if verdict[2] != "proved":
                 proof = ["proof"] if verdict[1] in by_hand else []
-                found[verdict[1]] = proof + sorted({clause_of(it) for it in goals})
+                found[verdict[1]] = proof + sorted({GOAL.sub(r"\1\2", it) for it in goals})
             before = []
     return found
 

@@ -71,17 +71,15 @@ def crate_and_name(path: str) -> tuple[str, str]:
 
 def pairs_of(lines: list[tuple[str, str]]) -> tuple[Pair, ...]:
     """Returns the pairs in lines, each a word and a text."""
-    found, path, old = [], None, None
+    found, last = [], {"file": "", "old": ""}
     for word, text in lines:
-        if word == "file":
-            path = text
-        elif word == "old":
-            old = text
-        elif word == "new":
-            if not path or not old:
+        if word == "new":
+            if not all(last.values()):
                 raise BadEdit("a `new:` line has no `file:` or `old:` line")
-            found.append(Pair(path, old, text))
-            old = None
+            found.append(Pair(last["file"], last["old"], text))
+            last["old"] = ""
+        elif word in last:
+            last[word] = text
     return tuple(found)
 
 

@@ -136,14 +136,10 @@ def check_locked(report: Report, program: str) -> None:
     if not (options := as_another(program)):
         report.skip("holds of files of others", "none but root may make them, or start the program")
         return
-
-    def lock(folder: str) -> None:
-        for path in (folder, os.path.join(folder, "k")):
-            os.chmod(path, 0o755)
-
     for line in (K, PLACED):
         failed(words_of(line), "write", "EACCES", TWO, out=last_line(ERRORS["EACCES"]), stdin=EMPTY, after={"k": TWO},
-               setting=lock, options=options).check(report, program)
+               setting=lambda folder: [os.chmod(os.path.join(folder, name), 0o755) for name in (".", "k")],
+               options=options).check(report, program)
 
 
 def check_outputs(report: Report, program: str) -> None:

@@ -61,7 +61,7 @@ Row = tuple[Case, Halt, Change]  # a run, where it is halted, and the change the
 
 def of_each() -> Iterator[Row]:
     """Yields runs of each command: one that replaces its file reports a change that it loses, and one that saves it in
-    place reports it and leaves it there."""
+    place reports it and leaves it there, also behind the second write, and behind the cut."""
     for case in CASES_OF_ALL:
         before, after = images(case)
         # The load reads the bytes and the end, and so does the comparison.
@@ -69,6 +69,8 @@ def of_each() -> Iterator[Row]:
         yield from ((one, halt, ADD_MORE) for one in both_ways(case, "lost change") for halt in halts)
         yield from ((with_more(one), COMPARED if len(after) > len(before) else SYNCED, ADD_MORE)
                     for one in both_ways(in_place(case), "mixed"))
+    yield from ((with_more(both_ways(in_place(case), "mixed")[0]), halt, ADD_MORE) for case, halt in (
+        (MIXED, Halt("fsync", 2)), (SHORTER, CUT), (SHORTER, SYNCED), (CUT_OFF, CUT)))
 
 
 def of_kinds() -> Iterator[Row]:
@@ -105,16 +107,9 @@ def of_refused() -> Iterator[Row]:
                           wanted=explained(unsaved(placed), *lines)), halt, change
 
 
-def of_later() -> Iterator[Row]:
-    """Yields changes behind the second write, and behind the cut."""
-    for case, halt in ((MIXED, Halt("fsync", 2)), (SHORTER, CUT), (SHORTER, SYNCED), (CUT_OFF, CUT)):
-        placed = in_place(case).as_case()
-        yield replace(with_more(placed), wanted=reported(placed, "mixed")), halt, ADD_MORE
-
-
 def check_rows(report: Report, program: str) -> None:
     """Makes each of those runs while which another program changes the file by a handle that it has."""
-    for case, halt, change in chain(of_each(), of_kinds(), of_refused(), of_later()):
+    for case, halt, change in chain(of_each(), of_kinds(), of_refused()):
         with folder_of(case.files) as folder, open(os.path.join(folder, file_of(case)), "r+b", buffering=0) as file:
             got = halted(program, case, folder, halt, lambda _, change=change, file=file: change(file))
             faults = differences(case.wanted, got) + tree_faults(case.files_after, folder)
