@@ -1,22 +1,9 @@
 /* A preloaded library that lets chosen calls of a program fail, and shows it another clock, and other lists of the
- * system.
+ * system. The variables that are numbers are below, with what they set; and these are not:
  *
  *   PRELOAD_COUNTS=F     a file that gets the counts below, each a 64-bit number
- *   REFUSE=N             the Nth request for memory is refused
- *   REFUSE_LASTS=1       each request after it is refused too
- *   FAIL_INPUT=N         the Nth read from the standard input fails
- *   FAIL_READ=N          the Nth read from a file fails; the system's own files do not count
- *   FAIL_WRITE=N         the Nth write to the standard output fails
- *   ZERO_WRITE=N         the Nth write to the standard output takes no byte
- *   FAIL_SAVE=N          the Nth write to a file fails
- *   ZERO_SAVE=N          the Nth write to a file takes no byte
- *   ERROR=N              a call that fails has the error of that number, and not EIO
- *   MOST=N               each read and each write moves at most N bytes
- *   CLOCK=N              the clock has N seconds since 1970, as a signed 64-bit number
- *   FAIL_CLOCK=N         the Nth reading of the clock fails, and each after it
  *   PACE=N               a sleep ends at once; the monotonic clock advances by its length, and by N milliseconds with
  *                        each reading; if N is 0 it cannot be read
- *   OPENING=N            it advances by N milliseconds with each open to write
  *   PROC=FOLDER          an open of the list of locks, of the list of mounts, or of the description of an open file opens
  *                        `locks`, `mountinfo` or `fdinfo` in that folder, and the Nth one of the list of locks `N`, if
  *                        that is there; and each file has the number 0 on the device 0:0
@@ -34,6 +21,7 @@
 #include <stdio.h>
 #include <stdlib.h>
 #include <string.h>
+#include <sys/auxv.h>
 #include <sys/mman.h>
 #include <sys/stat.h>
 #include <sys/syscall.h>
@@ -60,7 +48,7 @@ static struct counts {
     uint64_t requests, failures, slept, passed;
 } unshared, *counts = &unshared;
 
-/* Whether main has begun and not ended. */
+/* Whether main has begun. */
 static int in_main;
 static void *program_start;
 
@@ -236,22 +224,25 @@ static const struct {
     const char *name;
     uint64_t *value;
 } settings[] = {
-    {"REFUSE", &requests.fail}, {"REFUSE_LASTS", &refuse_lasts}, {"FAIL_INPUT", &inputs.fail},
-    {"FAIL_READ", &reads.fail}, {"FAIL_WRITE", &writes.fail}, {"ZERO_WRITE", &writes.take_none},
-    {"FAIL_SAVE", &saves.fail}, {"ZERO_SAVE", &saves.take_none}, {"ERROR", &error}, {"MOST", &most},
-    {"CLOCK", &clock_seconds}, {"FAIL_CLOCK", &fail_clock}, {"OPENING", &opening},
+    {"REFUSE", &requests.fail},        /* the Nth request for memory is refused */
+    {"REFUSE_LASTS", &refuse_lasts},   /* if it is 1, each request after it is refused too */
+    {"FAIL_INPUT", &inputs.fail},      /* the Nth read from the standard input fails */
+    {"FAIL_READ", &reads.fail},        /* the Nth read from a file fails; the system's own files do not count */
+    {"FAIL_WRITE", &writes.fail},      /* the Nth write to the standard output fails */
+    {"ZERO_WRITE", &writes.take_none}, /* the Nth write to the standard output takes no byte */
+    {"FAIL_SAVE", &saves.fail},        /* the Nth write to a file fails */
+    {"ZERO_SAVE", &saves.take_none},   /* the Nth write to a file takes no byte */
+    {"ERROR", &error},                 /* a call that fails has the error of that number, and not EIO */
+    {"MOST", &most},                   /* each read and each write moves at most N bytes */
+    {"CLOCK", &clock_seconds},         /* the clock has N seconds since 1970, as a signed 64-bit number */
+    {"FAIL_CLOCK", &fail_clock},       /* the Nth reading of the clock fails, and each after it */
+    {"OPENING", &opening},             /* the monotonic clock advances by N milliseconds with each open to write */
 };
 
-typedef int main_function(int, char **, char **);
-typedef void plain_function(void);
-typedef int start_function(main_function *, int, char **, plain_function *, plain_function *, plain_function *, void *);
-
-static main_function *program_main;
-
-/* The program's main, with its calls counted. */
-static int counted_main(int argc, char **argv, char **envp) {
+/* Takes the variables. The program's main is next. */
+__attribute__((constructor)) static void begin(void) {
     const char *file = getenv("PRELOAD_COUNTS");
-    program_start = start_of((void *)program_main);
+    program_start = start_of((void *)getauxval(AT_ENTRY));
     if (file)
         share_counts(file);
     unsetenv("PRELOAD_COUNTS");
@@ -263,15 +254,4 @@ static int counted_main(int argc, char **argv, char **envp) {
     proc = getenv("PROC") ? strdup(getenv("PROC")) : NULL;
     unsetenv("PROC");
     in_main = 1;
-    int status = program_main(argc, argv, envp);
-    in_main = 0;
-    return status;
-}
-
-/* Stands between the C library's start and the program's main. */
-int __libc_start_main(main_function *main, int argc, char **argv, plain_function *init,
-                      plain_function *fini, plain_function *rtld_fini, void *stack_end) {
-    start_function *start = (start_function *)dlsym(RTLD_NEXT, "__libc_start_main");
-    program_main = main;
-    return start(counted_main, argc, argv, init, fini, rtld_fini, stack_end);
 }
