@@ -14,7 +14,8 @@ from makers.samples import SAMPLES
 from pages.documents import literals
 from pages.readme import installed, no_library
 from runs.harness import SECONDS, TOP, Outcome, Report, differences, every, files_in, folder_of, message, run
-from runs.undisturbed import frame
+from runs.system_calls import Preloaded
+from runs.undisturbed import frame, preload_library, undisturbed
 from system.saving import owned, tree_faults
 
 LIBRARY = os.path.join(TOP, "lib", "libkrbfile.a")
@@ -58,8 +59,9 @@ def check_symbols(report: Report, _program: str) -> None:
 
 # Runs of the program that move keys, which are the bytes 0 to 15 as in all images of these tests.
 PROGRAM_RUNS = (
-    ("klist -ktKe k", b""), ("ccedit c", b"start\nconfig k - v\nstep 0\nrewrite\n"), ("hold -k k", frame(TWO)),
-    ("ktutil", f"rkt k\naddent -key -p c@R -k 3 -e 17\n{KEY}\nl -k\nwkt j\n".encode()),
+    undisturbed("klist -ktKe k", k=TWO), undisturbed("ccedit c", b"start\nconfig k - v\nstep 0\nrewrite\n", c=USUAL),
+    undisturbed("hold -k k", frame(TWO), k=TWO),
+    undisturbed("ktutil", f"rkt k\naddent -key -p c@R -k 3 -e 17\n{KEY}\nl -k\nwkt j\n".encode(), k=TWO),
 )
 
 
@@ -110,19 +112,16 @@ def check_given(report: Report, folder: str) -> None:
 
 def check_keys(report: Report, program: str, folder: str) -> None:
     """Checks that no freed block holds a key, in C and in the program."""
-    freed = build(folder, "freed", "-shared", "-fPIC")
-    with folder_of({"k": TWO, "c": USUAL}) as at:
-        runs = [(build(folder, "refused_memory", *WRAPS), "", b"")]
-        if report.is_proved:
-            runs += [(program, line, stdin) for line, stdin in PROGRAM_RUNS]
-        else:
-            report.skip("keys", "the program is not proved: its memory does not come from the C library")
-        for number, (named, line, stdin) in enumerate(runs):
-            seen = os.path.join(folder, f"seen-{number}")
-            got = run(named, line.split(), at, stdin, env={**os.environ, "LD_PRELOAD": freed, "FREED_SEEN": seen})
-            faults = [got.err.decode()] * (got.status != 0)
-            faults += ["no block that was given back is seen"] * (not os.path.exists(seen))
-            report.check(f"keys are cleared: {os.path.basename(named)} {line}", faults)
+    runs = [(build(folder, "refused_memory", *WRAPS), undisturbed(""))]
+    if report.is_proved:
+        runs += [(program, one) for one in PROGRAM_RUNS]
+    else:
+        report.skip("keys", "the program is not proved: its memory does not come from the C library")
+    for named, one in runs:
+        got = Preloaded(named, preload_library()).run(one, KEYS=1)
+        faults = [f"{got.outcome}"] * (got.outcome.status != 0)
+        report.check(f"keys are cleared: {os.path.basename(named)}, {one.name}",
+                     faults + ["no block that was given back is seen"] * (got.freed == 0))
 
 
 def check_programs(report: Report, program: str) -> None:

@@ -1,5 +1,5 @@
-/* A preloaded library that lets chosen calls of a program fail, and shows it another clock, and other lists of the
- * system. The variables that are numbers are below, with what they set; and these are not:
+/* A preloaded library that lets chosen calls of a program fail, shows it another clock, and other lists of the system,
+ * and looks for keys in the memory that it gives back. The variables that are numbers are below, with what they set; and these are not:
  *
  *   PRELOAD_COUNTS=F     a file that gets the counts below, each a 64-bit number
  *   PACE=N               a sleep ends at once; the monotonic clock advances by its length, and by N milliseconds with
@@ -16,6 +16,7 @@
 #include <dlfcn.h>
 #include <errno.h>
 #include <fcntl.h>
+#include <malloc.h>
 #include <stdarg.h>
 #include <stdint.h>
 #include <stdio.h>
@@ -32,20 +33,21 @@
 extern void *__libc_malloc(size_t);
 extern void *__libc_calloc(size_t, size_t);
 extern void *__libc_realloc(void *, size_t);
+extern void __libc_free(void *);
 
 /* A kind of calls: how many were made, and which of them is not granted. */
 static struct calls {
     uint64_t made, fail, take_none;
 } requests, inputs, reads, writes, saves;
 
-static uint64_t refuse_lasts, error, most, clock_seconds, clock_readings, fail_clock, pace, opening;
+static uint64_t refuse_lasts, error, most, clock_seconds, clock_readings, fail_clock, pace, opening, keys;
 static int is_paced;
 static char *proc;
 
-/* The requests for memory, the calls that were not granted, and how many milliseconds were slept, and how many passed,
- * where time passes by itself. */
+/* The requests for memory, the calls that were not granted, how many milliseconds were slept, and how many passed, where
+ * time passes by itself, and the blocks that were given back. */
 static struct counts {
-    uint64_t requests, failures, slept, passed;
+    uint64_t requests, failures, slept, passed, freed;
 } unshared, *counts = &unshared;
 
 /* Whether main has begun. */
@@ -80,7 +82,25 @@ void *calloc(size_t count, size_t size) {
     return refuses(__builtin_return_address(0)) ? NULL : __libc_calloc(count, size);
 }
 
+/* Ends the program where a block that it gives back holds a key, which is the bytes 0 to 15, as the tests have them. */
+static void look(void *block) {
+    unsigned char *byte = block;
+    size_t len = block && keys ? malloc_usable_size(block) : 0, run = 0;
+    counts->freed += len > 0;
+    for (size_t at = 0; at < len; at++) {
+        run = byte[at] == run ? run + 1 : byte[at] == 0;
+        if (run == 16)
+            _exit(98);
+    }
+}
+
+void free(void *block) {
+    look(block);
+    __libc_free(block);
+}
+
 void *realloc(void *old, size_t size) {
+    look(old);
     return refuses(__builtin_return_address(0)) ? NULL : __libc_realloc(old, size);
 }
 
@@ -237,6 +257,7 @@ static const struct {
     {"CLOCK", &clock_seconds},         /* the clock has N seconds since 1970, as a signed 64-bit number */
     {"FAIL_CLOCK", &fail_clock},       /* the Nth reading of the clock fails, and each after it */
     {"OPENING", &opening},             /* the monotonic clock advances by N milliseconds with each open to write */
+    {"KEYS", &keys},                   /* if it is 1, a block that is given back may hold no key */
 };
 
 /* Takes the variables. The program's main is next. */

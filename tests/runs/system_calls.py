@@ -1,5 +1,5 @@
 """Runs of the program under strace, which lists its system calls and lets chosen ones fail, and under a preloaded
-library (preload.c), which lets chosen calls of the C library fail and shows other lists of the system."""
+library (preload.c), which lets chosen calls of the C library fail, shows other lists of the system, and finds keys."""
 
 import os
 import re
@@ -104,15 +104,17 @@ def halted(program: str, one: Run, folder: str, halt: Halt, change: Callable[[st
 class Counted:
     """A run, the files after it, its allocations, and the number of its calls that failed or moved nothing.
 
-    Where a pace is set also how many milliseconds it slept, and how many passed.
+    Where a pace is set also how many milliseconds it slept, and how many passed; where keys are looked for, in how many
+    blocks.
     """
 
     outcome: Outcome
     files: dict[str, bytes]
     requests: int
     failures: int
-    slept: int = 0
-    passed: int = 0
+    slept: int
+    passed: int
+    freed: int
 
 
 @dataclass(frozen=True)
@@ -133,10 +135,9 @@ class Preloaded:
             env = {"LD_PRELOAD": self.library, "PRELOAD_COUNTS": counts.name}
             env.update((name, str(value)) for name, value in settings.items())
             outcome = run(self.program, one.words, folder, one.stdin, env=env)
-            if not (counted := counts.read(32)):
+            if not (counted := counts.read(40)):
                 return None
-            requests, *others = struct.unpack("=4Q", counted)
-            return Counted(outcome, files_in(folder), requests, *others)
+            return Counted(outcome, files_in(folder), *struct.unpack("=5Q", counted))
 
     def check(self, report: Report, case: Case, **clock: int) -> None:
         """Makes a run by a clock and reports it. What it comes to is computed too, but not by a clock past 32 bits."""
