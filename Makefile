@@ -42,7 +42,6 @@ STATIC = bin/krbfile-static
 ARCHIVE = crates/krb_c/out/libkrb_c.a
 LIBRARY = lib/libkrbfile.a
 SHARED = lib/libkrbfile.so.1
-LINKER_NAME = lib/libkrbfile.so
 KIT = $(dir $(shell rt doc))
 SOURCES = crates.txt $(shell find crates/*/src crates/*/specs crates/*/proofs -type f)
 VERSION := $(shell sed -n 's/^const VERSION: &str = "\([^ "]*\).*/\1/p' crates/krb_command_line/src/command_lines.rt)
@@ -79,9 +78,7 @@ $(PROGRAM): $(BUILT)
 $(STATIC): $(BUILT)
 	test -f $(BUILT).o || (rm $(BUILT) && tests/prove krbfile)
 	mkdir -p $(dir $(STATIC))
-	$(CC) $(CFLAGS) -static-pie $(HARDENED) $(LDFLAGS) -o $(STATIC).linked $(BUILT).o $(KIT)c/libos_c.a $(KIT)c/liblibc_c.a
-	install -m 755 $(STATIC).linked $(STATIC)
-	rm $(STATIC).linked
+	$(CC) $(CFLAGS) -static-pie $(HARDENED) $(LDFLAGS) -o $@ $(BUILT).o $(KIT)c/libos_c.a $(KIT)c/liblibc_c.a
 
 $(ARCHIVE): $(SOURCES)
 	tests/prove krb_c
@@ -102,9 +99,6 @@ $(SHARED): lib/krbfile.o c/krbfile.map
 	$(CC) $(CFLAGS) -shared $(HARDENED) -Wl,-z,defs -Wl,-soname,libkrbfile.so.1 -Wl,--version-script,c/krbfile.map \
 		$(LDFLAGS) -o $@ lib/krbfile.o
 
-$(LINKER_NAME): $(SHARED)
-	ln -sf $(notdir $(SHARED)) $@
-
 try:
 	$(need_rt)
 	cd crates/krbfile && rt try -- show "$(if $(FILE),$(abspath $(FILE)),data/k)"
@@ -118,7 +112,8 @@ check:
 
 static: $(STATIC)
 
-lib: $(LIBRARY) $(SHARED) $(LINKER_NAME)
+lib: $(LIBRARY) $(SHARED)
+	ln -sf $(notdir $(SHARED)) lib/libkrbfile.so
 
 cards:
 	tests/definitions --cards bin/cards
@@ -133,7 +128,7 @@ samples:
 # last, even if a test failed.
 test:
 	$(need_rt)
-	rm -f $(BUILT) $(BUILT).o $(STATIC) $(LINKER_NAME) $(ARCHIVE)
+	rm -f $(BUILT) $(BUILT).o $(STATIC) lib/libkrbfile.so $(ARCHIVE)
 	rm -rf crates/*/out/rlib
 	tests/samples_of_corpus
 	tests/wrong --beside $(WRONG) rt ci

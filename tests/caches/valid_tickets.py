@@ -1,6 +1,5 @@
 """`klist -s`: whether a cache has a ticket to go on with, which the status alone says."""
 
-import os
 from dataclasses import replace
 
 from caches.cache_listings import of_host
@@ -68,7 +67,7 @@ CASES = [
 
 def check(report: Report, program: str) -> None:
     """Checks names that lead to no plain file: a pipe is not opened."""
-    with folder_of({}) as folder, fed(os.path.join(folder, "pipe")) as is_used:
+    with folder_of({}) as folder, fed(f"{folder}/pipe") as is_used:
         for name in (".", "/dev/null", "x" * 256, "pipe"):
             report.compare(f"a name: {name[:20]}", UNREAD, run(program, ("klist", "-s", name), folder))
         report.check("a pipe", ["it was opened"] * is_used())

@@ -1,6 +1,5 @@
 """Each job and script of examples/ runs over the samples, and README's line for cron. systemd looks at its units."""
 
-import os
 import re
 import shlex
 import shutil
@@ -95,7 +94,7 @@ def check(report: Report, program: str) -> None:
         report.skip("examples/", f"{', '.join(missing) or 'PyYAML'} is not there")
         return
     with installed(program) as env, folder_of({"odd": BEFORE}) as folder:
-        env |= {"TMPDIR": os.path.dirname(env["KRBFILE"]), "PATH": f"{env['PATH']}:{TOP}/examples"}
+        env |= {"TMPDIR": env["KRBFILE"].removesuffix("/krbfile"), "PATH": f"{env['PATH']}:{TOP}/examples"}
         make(folder)
         check_jobs(report, folder, env)
         for words, wanted in SCRIPTS.items():

@@ -1,14 +1,13 @@
 """There is a card of each command: few lines of few columns, and all that computes in full there has a sample. What a
 contract says does not change with the constants of the code: no definition names one, and clauses only sizes."""
 
-import os
 import re
 
 from pages.documents import paths, read
 from runs.commands import COMMANDS
 from runs.harness import TOP, Report, files_in, folder_of, run
 
-MAKER = os.path.join(TOP, "tests", "definitions")
+MAKER = f"{TOP}/tests/definitions"
 LINES, COLUMNS = 200, 100
 
 SIZES = {"FULL", "BATCH"}  # the constants that clauses may name: what is gathered before a write, and quoted at once

@@ -6,7 +6,6 @@ eight bits neither. The realm and its KDC are those of caches_beside_mit.
 """
 
 import json
-import os
 from dataclasses import replace
 from random import Random
 
@@ -53,7 +52,7 @@ def check_opened(report: Report, program: str, made: Realm) -> None:
         opened = []
         for random in map(Random, range(SEEDS)):
             image = keytab(*(written(random, it) for it in random.sample(entries, random.randrange(len(entries) + 1))))
-            write(os.path.join(folder, "t"), image)
+            write(f"{folder}/t", image)
             ours = run(program, ("ktmatch", "--json", "t", *(cache for cache, _ in caches)), folder).out.splitlines()
             for (cache, name), line in zip(caches, ours, strict=True):
                 env = made.surroundings() | {"KRB5CCNAME": f"FILE:{cache}"}

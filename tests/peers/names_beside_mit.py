@@ -5,7 +5,6 @@ import os
 import re
 from collections.abc import Mapping
 from functools import partial
-from itertools import product
 
 from makers.images import TWO
 from names.file_types import ALL
@@ -75,5 +74,5 @@ def check_defaults(report: Report, program: str) -> None:
 
 
 VALUES = {*ALL, " ", "-k", "k", "./k"} - {"", "MEMORY:k"}
-check = every(*(partial(check_value, *each) for each in product(Kind, VALUES)), check_defaults,
+check = every(*(partial(check_value, kind, word) for kind in Kind for word in VALUES), check_defaults,
               of="default files beside MIT's klist", lack=lambda: lack("klist"))

@@ -3,13 +3,12 @@
 What our runs report as saved is there afterwards, the cache is whole, and MIT's klist lists it as ours does.
 """
 
-import os
 from random import Random
 
 from makers.images import keytab
 from peers.beside_mit import as_json, differences_of
 from peers.caches_beside_mit import USER, Realm, in_realm
-from runs.harness import Report, folder_of, run
+from runs.harness import Report, files_in, folder_of, run
 from runs.random_runs import Rounds
 from runs.storms import Run, rage
 
@@ -53,7 +52,7 @@ def storm(program: str, made: Realm, seed: int) -> list[str]:
         found = faults_of(runs, as_json(program, folder, "c"))
         found += differences_of(program, folder, "-f", "-C")
         got = run(program, ("ccremove", "-p", "krbtgt/CACHE.TEST@CACHE.TEST", "c"), folder)
-        left = sorted(os.listdir(folder))
+        left = sorted(files_in(folder))
         found += [] if (got.status, left) == (0, ["c", "k"]) else [f"then {got}, and {left}"]
         made.call(*USER, folder=folder)
         made.call("kvno", *GOING, *COMING, folder=folder)

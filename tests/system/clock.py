@@ -3,7 +3,6 @@ are old, or aged, for long enough. Over several files the clock is read once."""
 
 from collections.abc import Iterator
 from dataclasses import replace
-from itertools import chain
 
 from caches.cache_listings import HEADING, line_of
 from caches.overviews import summary
@@ -143,12 +142,12 @@ def known() -> Iterator[Row]:
 
 
 # Those at the second in which a ticket ends or an entry is as old as is asked, and at the second before.
-THEOREMS = [replace(case, clock=setting["CLOCK"]) for case, setting in chain(aged(), valid())
+THEOREMS = [replace(case, clock=setting["CLOCK"]) for case, setting in (*aged(), *valid())
            if setting["CLOCK"] in (999_999, 1_000_000, 1_000_006, 1_000_007)]
 
 
 def check(report: Report, program: str) -> None:
     """Makes each run."""
     under = preloaded(report, program, "the clock")
-    for case, setting in chain(expired(), aged(), valid(), unread(), once(), known()) if under else ():
+    for case, setting in (*expired(), *aged(), *valid(), *unread(), *once(), *known()) if under else ():
         under.check(report, case, **setting)

@@ -7,7 +7,6 @@ words or without; the output is as ever. One before the comparison, which is beh
 import os
 from collections.abc import Callable, Iterator
 from dataclasses import replace
-from itertools import chain
 from typing import BinaryIO
 
 from makers.images import B, HOST, keytab
@@ -109,7 +108,7 @@ def of_refused() -> Iterator[Row]:
 
 def check_rows(report: Report, program: str) -> None:
     """Makes each of those runs while which another program changes the file by a handle that it has."""
-    for case, halt, change in chain(of_each(), of_kinds(), of_refused()):
+    for case, halt, change in (*of_each(), *of_kinds(), *of_refused()):
         with folder_of(case.files) as folder, open(os.path.join(folder, file_of(case)), "r+b", buffering=0) as file:
             got = halted(program, case, folder, halt, lambda _, change=change, file=file: change(file))
             faults = differences(case.wanted, got) + tree_faults(case.files_after, folder)
