@@ -46,21 +46,10 @@ class Ends:
         self.command = run.words[run.words[0] == EXPLAIN]
         self.unused = "." if self.command in ("ktremove", "ccremove") else "none"
         self.lines = run.stdin.splitlines(keepends=True)
-
-    @property
-    def names(self) -> list[str]:
-        """The files that its words name."""
-        return [word for word in self.run.words if word in {*self.run.files, *self.run.files_after}]
-
-    @property
-    def whole(self) -> End:
-        """How it ends if nothing fails."""
-        return self.run.wanted, self.run.files_after
-
-    @property
-    def frame(self) -> bytes:
-        """What a hold prints before its last line."""
-        return self.run.wanted.out.removesuffix(HOLD_SAVED) if self.command == "hold" else b""
+        # How it ends if nothing fails, the files that its words name, and what a hold prints before its last line.
+        self.whole: End = run.wanted, run.files_after
+        self.names = [word for word in run.words if word in {*run.files, *run.files_after}]
+        self.frame = run.wanted.out.removesuffix(HOLD_SAVED) if self.command == "hold" else b""
 
     def ended(self, front: bytes, last: Outcome) -> list[Outcome]:
         """Returns the outcomes of a failed call, after that output. The last line of a hold has the cause."""
