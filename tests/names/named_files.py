@@ -72,27 +72,14 @@ NAME = "<name>"  # the name whose place others take
 BESIDE = "from"  # that of the file beside it
 
 
-@dataclass(frozen=True, eq=False)
 class Command:
     """A run, and the file whose place one of any name takes."""
 
-    run: Undisturbed
-    file: str
-
-    @property
-    def kind(self) -> Kind:
-        """The kind of the file."""
-        return Kind.CACHE if self.file == "c" else Kind.KEYTAB
-
-    @property
-    def kinds(self) -> tuple[Kind, ...]:
-        """The kinds that the file may be of."""
-        return (*Kind,) if self.run.words[0] == "show" else (self.kind,)
-
-    @property
-    def beside(self) -> dict[str, bytes]:
-        """The file beside it."""
-        return {BESIDE: image for name, image in self.run.files.items() if name != self.file}
+    def __init__(self, run: Undisturbed, file: str) -> None:
+        self.run, self.file = run, file
+        self.kind = Kind.CACHE if file == "c" else Kind.KEYTAB
+        self.kinds = (*Kind,) if run.words[0] == "show" else (self.kind,)  # those that it may be of
+        self.beside = {BESIDE: image for name, image in run.files.items() if name != file}
 
     def words(self, name: str | None) -> Line:
         """Returns its words for a name, or for none."""
