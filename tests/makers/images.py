@@ -42,18 +42,12 @@ class Entry:
 
     def spelled(self, version: int = 2, order: str = BIG) -> bytes:
         """Returns the entry's bytes. Version 1 counts the realm as a component, and has no name type."""
-        count = self.count
-        if count is None:
-            count = len(self.components) + (1 if version == 1 else 0)
-        parts = [number(count, 2, order), counted(self.realm, order)]
-        parts += [counted(component, order) for component in self.components]
-        if version == 2:
-            parts.append(number(self.name_type, 4, order))
-        parts += [number(self.timestamp, 4, order), number(self.version8, 1, order)]
-        parts += [number(self.enctype, 2, order), counted(self.key, order)]
-        if self.version32 is not None:
-            parts.append(number(self.version32, 4, order))
-        return b"".join(parts)
+        count = len(self.components) + (version == 1) if self.count is None else self.count
+        name_type = number(self.name_type, 4, order) if version == 2 else b""
+        version32 = b"" if self.version32 is None else number(self.version32, 4, order)
+        name = (counted(part, order) for part in (self.realm, *self.components))
+        numbers = number(self.timestamp, 4, order), number(self.version8, 1, order), number(self.enctype, 2, order)
+        return b"".join((number(count, 2, order), *name, name_type, *numbers, counted(self.key, order), version32))
 
 
 HOST = Entry()  # host/a@R, 47 bytes in version 2, with the key 00 to 0f
@@ -153,13 +147,12 @@ class Credential:
 
     def spelled(self, version: int = 4) -> bytes:
         """Returns the credential's bytes."""
-        parts = [self.client.spelled(), self.server.spelled(), number(self.enctype, 2)]
-        if version == 3:
-            parts.append(number(self.enctype if self.second_enctype is None else self.second_enctype, 2))
-        times = (self.authtime, self.starttime, self.endtime, self.renew_till)
-        parts += [counted32(self.key), *(number(time, 4) for time in times)]
-        parts += [number(self.is_skey, 1), number(self.flags, 4), typed_list(self.addresses), typed_list(self.authdata)]
-        return b"".join([*parts, counted32(self.ticket), counted32(self.second_ticket)])
+        again = number(self.enctype if self.second_enctype is None else self.second_enctype, 2) * (version == 3)
+        times = (number(each, 4) for each in (self.authtime, self.starttime, self.endtime, self.renew_till))
+        return b"".join((
+            self.client.spelled(), self.server.spelled(), number(self.enctype, 2), again, counted32(self.key), *times,
+            number(self.is_skey, 1), number(self.flags, 4), typed_list(self.addresses), typed_list(self.authdata),
+            counted32(self.ticket), counted32(self.second_ticket)))
 
     def removed(self) -> Credential:
         """Returns the same with the removed mark."""
