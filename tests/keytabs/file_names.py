@@ -1,14 +1,13 @@
-"""Which file is read: names of all kinds, files that cannot be read, and the greatest size."""
+"""Which file is read: names of all kinds, odd files, and the greatest size."""
 
 import os
 from functools import partial
 
 from keytabs.listings import B_LINE, HOST_LINE, listed
 from makers.images import HOST, TWO, keytab
-from runs.harness import Case, Outcome, Report, folder_of, message, over, run
+from runs.harness import Case, Outcome, message, over
 
 LIMIT = 16_777_216  # the greatest size of a file that is read
-NOBODY = 65_534  # a user who may not read root's files
 
 # Each is taken and printed as it is given.
 NAMES = ["./k", "two words", "schlüssel-ключ-鍵", "-k", "-", "a:b", "new\nline", "x" * 255]
@@ -35,16 +34,3 @@ CASES = [
         (".", "cannot read", 3), ("/proc/self/mem", "cannot read", 3), ("/dev/zero", "file too large", 1),
         ("/dev/null", "not a keytab (1)", 1))),
 ]
-
-
-def check(report: Report, program: str) -> None:
-    """Checks a file that may not be read. Root can read every file, so root has another user run the program."""
-    options = {"user": NOBODY, "group": NOBODY, "extra_groups": []} if os.geteuid() == 0 else {}
-    with folder_of({"k": TWO}) as folder:
-        os.chmod(folder, 0o755)
-        os.chmod(os.path.join(folder, "k"), 0)
-        try:
-            got = run(program, ("klist", "-k", "k"), folder, **options)
-            report.compare("an unreadable file", message(3, "k: cannot read"), got)
-        except PermissionError:
-            report.skip("an unreadable file", "none but root may start the program")

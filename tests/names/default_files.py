@@ -7,11 +7,11 @@ from collections.abc import Callable, Iterator
 from contextlib import ExitStack, contextmanager
 from itertools import product
 
-from keytabs.file_names import NOBODY
 from makers.images import TWO
 from names.named_files import BESIDE, DEFAULTS, IMAGES, KLIST, KLIST_CACHE, NEITHER, FileName, Kind
 from runs.harness import EXPLAIN, Line, Report, every, folder_of, message, run, words_of
 from runs.namespaces import STATUS, no_mounts, run_within
+from system.saving import USER as NOBODY
 from system.saving import write
 from words.explaining import Explained, unchanged
 from words.phrases import DEFAULT

@@ -81,18 +81,14 @@ def check_change(report: Report, program: str, call: str, of: tuple[str, bool, P
 
 def check_changes(report: Report, program: str) -> None:
     """Checks that a file that changed since it was loaded is not saved."""
-    for of in REPLACED:
-        for call in ("load" if of[1] else "missing", "writing", "syncing"):
-            check_change(report, program, call, of)
     changed = CHANGED if os.geteuid() == 0 else CHANGED[:-2]
-    for of in changed:
-        for call in ("load", "writing", "syncing"):
-            check_change(report, program, call, of)
+    rows = [(call, of) for of in (*REPLACED, *changed)
+            for call in ("load" if of[1] else "missing", "writing", "syncing")]
     replaced = [of for of in REPLACED[:-2] if of[1]]
-    for of in [*replaced, *changed]:
-        check_change(report, program, "load", of, IN_PLACE)
-    for of in replaced:
-        check_change(report, program, "syncing", of, IN_PLACE)
+    rows += [("load", of, IN_PLACE) for of in (*replaced, *changed)]
+    rows += [("syncing", of, IN_PLACE) for of in replaced]
+    for row in rows:
+        check_change(report, program, *row)
 
 
 def added(name: str, wanted: Outcome, files: dict[str, bytes], after: dict[str, object], *options: str) -> Case:

@@ -14,7 +14,7 @@ from keytabs.ktutil_lines import KEY
 from makers.images import B, TWO, USUAL, keytab
 from runs.harness import Report, folder_of, run
 from runs.undisturbed import frame
-from system.saving import last_line
+from system.saving import as_another, last_line
 from words.explaining import case, copy, failed, link, no_keytab
 from words.phrases import (BEGINS_AS_CACHE, CAUSES, CLASH, ERRORS, LARGE, OTHER_FILES, SEE_HELP, SHORT, TO_REPLACE,
                            code, line_fault, unknown)
@@ -66,8 +66,19 @@ CASES = [
 ]
 
 
+def lock(folder: str) -> None:
+    """Lets no user read the file of a folder."""
+    for name, mode in ((".", 0o755), ("k", 0)):
+        os.chmod(os.path.join(folder, name), mode)
+
+
 def check(report: Report, program: str) -> None:
-    """Sets KRBFILE_EXPLAIN: `klist -s` prints nothing with it too."""
+    """Sets KRBFILE_EXPLAIN: `klist -s` prints nothing with it too. A file that may not be read is read by another user
+    than root, who can read each."""
+    if (options := as_another(program)) is None:
+        report.skip("an unreadable file", "none but root may start the program")
+    else:
+        failed(("klist", "-k", "k"), "read", "EACCES", TWO, setting=lock, options=options).check(report, program)
     rows = (case("a listing", "klist -k k", b"", no_keytab(SHORT)), case("a question", "klist -s k", b""),
             case("a bad line", "x", b"", ("bad command line", "unknown command x; see krbfile --help"), status=2))
     for value, row in product((b"1", b"00", b"no", b"\xff", b"0", b""), rows):
