@@ -12,8 +12,7 @@ from collections.abc import Callable
 
 from keytabs.ktutil_lines import KEY, NO_SLOTS, TWO_LISTED
 from makers.images import TWO, USUAL
-from runs.harness import SECONDS, Outcome, Report, differences, folder_of, piped, short, text
-from runs.terminal import all_of
+from runs.harness import SECONDS, Outcome, Report, all_of, differences, folder_of, piped, short, text
 from words.phrases import NO_ENTRY, NO_PASSWORDS
 
 LISTED = text(TWO_LISTED)

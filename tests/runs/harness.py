@@ -1,5 +1,5 @@
 """Runs the program on a case in a folder of its own, and reports what differs from the expected result. How tables of
-cases are made, and run."""
+cases are made, and run, and runs on a terminal."""
 from __future__ import annotations
 
 import os
@@ -10,7 +10,8 @@ import stat
 import subprocess
 import tempfile
 from collections.abc import Callable, Iterable
-from contextlib import contextmanager
+from concurrent.futures import ThreadPoolExecutor
+from contextlib import contextmanager, suppress
 from dataclasses import dataclass, field, replace
 from pathlib import Path
 
@@ -158,6 +159,33 @@ def piped(program: str, words, folder: str, **options) -> subprocess.Popen[bytes
     """Starts a run in that folder. Its input and its outputs are pipes, except those that `options` redirect."""
     pipes = dict.fromkeys(("stdin", "stdout", "stderr"), subprocess.PIPE)
     return subprocess.Popen([program, *words], cwd=folder, **{**pipes, **options})
+
+
+def all_of(end: int) -> bytes:
+    """Returns what was written to a terminal, once nobody has its other end open."""
+    parts = []
+    with suppress(OSError):
+        while part := os.read(end, 65_536):
+            parts.append(part)
+    return b"".join(parts).replace(b"\r\n", b"\n")
+
+
+def run_on_terminal(program: str, words, folder: str, stdin: bytes = b"", stream: str = "stderr", **options) -> Outcome:
+    """Makes a run with one output on a terminal, by default the error output."""
+    ours, theirs = os.openpty()
+    with ThreadPoolExecutor(1) as pool:
+        shown = pool.submit(all_of, ours)
+        try:
+            got = run(program, words, folder, stdin, **options, **{stream: theirs})
+        finally:
+            os.close(theirs)
+    os.close(ours)
+    return replace(got, **{stream.removeprefix("std"): shown.result()})
+
+
+# The ways to make a run, each with whether it explains messages.
+WAYS = {"on a pipe": (run, False), "on a terminal": (run_on_terminal, True),
+        EXPLAIN: (lambda program, words, *more, **options: run(program, (EXPLAIN, *words), *more, **options), True)}
 
 
 def run_case(program: str, case: Case, **options) -> tuple[Outcome, dict[str, bytes]]:

@@ -11,8 +11,7 @@ from keytabs.file_names import LIMIT, sized
 from keytabs.listings import B_LINE, HOST_LINE, listed
 from makers.images import B, BIG, HOST, TWO, USUAL, VERSION_3, Entry, keytab, old, record
 from runs.harness import (EXPLAIN, SECONDS, Case, Outcome, Report, differences, every, folder_of, message, piped, run,
-                          words_of)
-from runs.terminal import run_on_terminal
+                          run_on_terminal, words_of)
 from runs.undisturbed import IN_PLACE, frame
 from system.failing_streams import NO_OUTPUT
 from system.file_locks import is_locked

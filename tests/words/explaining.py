@@ -5,8 +5,8 @@ from collections.abc import Callable
 from dataclasses import dataclass, field
 
 from makers.images import USUAL
-from runs.harness import EXPLAIN, Case, Line, Outcome, Report, differences, files_in, folder_of, shown, text, words_of
-from runs.terminal import WAYS
+from runs.harness import (EXPLAIN, WAYS, Case, Line, Outcome, Report, differences, files_in, folder_of, shown, text,
+                          words_of)
 from words.phrases import CAUSES, code
 
 CUT_CACHE = USUAL + b"\0"  # a damaged cache

@@ -2,8 +2,7 @@
 
 from makers.images import TWO
 from runs.commands import COMMANDS
-from runs.harness import Case, Line, Outcome, Report, folder_of, run, shown, words_of
-from runs.terminal import WAYS
+from runs.harness import WAYS, Case, Line, Outcome, Report, folder_of, run, shown, words_of
 from words.command_lines import lines_of
 from words.explaining import Explained
 from words.phrases import code

@@ -6,8 +6,7 @@ from dataclasses import replace
 
 from makers.images import B, TICKET, Entry, Name, cache, keytab
 from runs.commands import READS
-from runs.harness import EXPLAIN, Report, differences, folder_of, run
-from runs.terminal import run_on_terminal
+from runs.harness import EXPLAIN, Report, differences, folder_of, run, run_on_terminal
 from runs.undisturbed import Undisturbed, undisturbed
 
 # What is escaped: each byte below hexadecimal 20 but newlines, 7f, and pairs of c2 and 80 to 9f.
