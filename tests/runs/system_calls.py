@@ -73,18 +73,14 @@ class Halt:
     nth: int = 1
     paths: tuple[str, ...] = ()
 
-    def options(self) -> list[str]:
-        """Returns the options of strace that halt a run there."""
-        inject = f"inject={self.calls}:signal=STOP:when={self.nth}"
-        paths = [word for path in self.paths for word in ("-P", path)]
-        return ["-e", "quiet=all", "-e", f"trace={self.calls}", "-e", inject, *paths]
-
 
 def halted(program: str, one: Run, folder: str, halt: Halt, change: Callable[[str], None],
            env: dict[str, str] | None = None) -> Outcome:
     """Makes a run that is halted somewhere until a change is made in its folder, and then goes on."""
+    inject = f"inject={halt.calls}:signal=STOP:when={halt.nth}"
+    options = ["-e", inject, *(word for path in halt.paths for word in ("-P", path))]
     with tempfile.NamedTemporaryFile() as trace:
-        words = ["-f", "-o", trace.name, *halt.options(), program, *one.words]
+        words = ["-f", "-o", trace.name, "-e", "quiet=all", "-e", f"trace={halt.calls}", *options, program, *one.words]
         with piped("strace", words, folder, env=env) as started:
             started.stdin.write(one.stdin)
             started.stdin.close()

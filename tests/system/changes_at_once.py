@@ -116,14 +116,6 @@ def run_of(program: str, kind: Kind, number: int, random: Random, sources: str) 
     return Run(name, line, text, removes(command), is_mits, is_killed)
 
 
-def start(program: str, runs: list[Run], folder: str, sources: str) -> None:
-    """Starts all programs, which then wait for their input."""
-    os.symlink(program, os.path.join(sources, "krbfile"))
-    env = {**SURROUNDINGS, "PATH": sources + os.pathsep + SURROUNDINGS["PATH"], "TMPDIR": sources}
-    for each in runs:
-        each.start(folder, env)
-
-
 def seen_while(path: str, rages: Callable[[], None]) -> set[bytes]:
     """Returns what the file is while the programs run to their ends: it is read repeatedly."""
     seen: set[bytes] = set()
@@ -161,8 +153,11 @@ def storm(program: str, kind: Kind, seed: int) -> list[str]:
         files["k.krbfile"] = b"left"
     with folder_of(files) as folder, tempfile.TemporaryDirectory() as sources:
         os.symlink("k", os.path.join(folder, "link"))
+        os.symlink(program, os.path.join(sources, "krbfile"))
+        env = {**SURROUNDINGS, "PATH": sources + os.pathsep + SURROUNDINGS["PATH"], "TMPDIR": sources}
         runs = [run_of(program, kind, number, random, sources) for number in range(MANY)]
-        start(program, runs, folder, sources)
+        for each in runs:
+            each.start(folder, env)
         seen = seen_while(os.path.join(folder, "k"), lambda: rage(runs, random, kind.with_mit))
         return faults_of(kind, runs, tree(folder), seen)
 

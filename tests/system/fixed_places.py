@@ -45,38 +45,38 @@ ATTRIBUTES = {"system.posix_acl_access": LIST, "user.origin": b"a realm",
               "security.selinux": b"system_u:object_r:krb5_keytab_t:s0\0"}
 
 
-def kinds(report: Report) -> list[dict[str, bytes]]:
-    """Returns attributes that a file may have: none, and each that can be set."""
-    found: list[dict[str, bytes]] = [{}]
+def kinds(report: Report) -> list[tuple[str, bytes] | tuple[()]]:
+    """Returns the attribute that a file may have: none, and each that can be set."""
+    found: list[tuple[str, bytes] | tuple[()]] = [()]
     with folder_of({"k": b""}) as folder:
         for name, value in ATTRIBUTES.items():
             try:
                 os.setxattr(os.path.join(folder, "k"), name, value)
-                found.append({name: value})
+                found.append((name, value))
             except OSError as error:
                 report.skip(f"the attribute {name}", f"a file cannot have it: {error.strerror}")
     return found
 
 
-def check_kept(report: Report, program: str, case: Undisturbed, attributes: dict[str, bytes]) -> None:
-    """Checks a save of a file that has those attributes, another name, and if root makes it another owner. As it stays
-    the same file, its other names, and who has it open, have the new bytes."""
-    placed = in_place(case)
-    with folder_of(case.files) as folder, folder_of({}) as other:
-        path = os.path.join(folder, file_of(case))
-        with suppress(PermissionError):
-            os.chown(path, USER, GROUP)
-        os.chmod(path, MODE)
-        for each, value in attributes.items():
-            os.setxattr(path, each, value)
-        os.link(path, os.path.join(other, "k"))
-        wanted = kept(path)
-        os.utime(folder, (1, 1))
-        got = run(program, placed.words, folder, case.stdin)
-        faults = ["the folder was changed"] if os.stat(folder).st_mtime != 1 else []
-        faults += [] if kept(path) == wanted else [f"{kept(path)}, not {wanted}"]
-        faults += faults_of(placed, got, files_in(folder))
-    report.check(f"{placed.name}, with {[*attributes]}", faults)
+def check_kept(report: Report, program: str) -> None:
+    """Checks a save by each command of a file that has such an attribute, another name, and if root makes it another
+    owner. As it stays the same file, its other names, and who has it open, have the new bytes."""
+    for case, attribute in product(map(in_place, PLACED), kinds(report)):
+        with folder_of(case.files) as folder, folder_of({}) as other:
+            path = os.path.join(folder, file_of(case))
+            with suppress(PermissionError):
+                os.chown(path, USER, GROUP)
+            os.chmod(path, MODE)
+            if attribute:
+                os.setxattr(path, *attribute)
+            os.link(path, os.path.join(other, "k"))
+            wanted = kept(path)
+            os.utime(folder, (1, 1))
+            got = run(program, case.words, folder, case.stdin)
+            faults = ["the folder was changed"] if os.stat(folder).st_mtime != 1 else []
+            faults += [] if kept(path) == wanted else [f"{kept(path)}, not {wanted}"]
+            faults += faults_of(case, got, files_in(folder))
+        report.check(f"{case.name}, with {[*attribute[:1]]}", faults)
 
 
 def check_set_id(report: Report, program: str) -> None:
@@ -198,12 +198,6 @@ def check_missing(report: Report, program: str) -> None:
         missing(ADD, name).check(report, program)
 
 
-def check_all_kept(report: Report, program: str) -> None:
-    """Checks what each command keeps of a file of those attributes."""
-    for case, attributes in product(PLACED, kinds(report)):
-        check_kept(report, program, case, attributes)
-
-
-check = every(check_missing, check_all_kept, check_set_id, check_limit,
+check = every(check_missing, check_kept, check_set_id, check_limit,
               every(check_disks, check_sparse, of="disks that are full or read-only", lack=no_disks),
               every(check_mounted, of="files that are mounted, saved in place", lack=no_mounts))
