@@ -84,19 +84,16 @@ def traced_run(program: str, run: Undisturbed, *options: str) -> tuple[End, list
         return (outcome, files_in(folder)), trace
 
 
-def unsynced(calls: list[Call]) -> list[str]:
-    """Returns the renames after which the folder is not synced at once."""
-    lines = [call.line for call in calls]
-    return [line for at, line in enumerate(lines) if line.startswith("rename")
-            and not re.match(r'open.*"\.", .* = (\d+)\nfsync\(\1\) += 0$', "\n".join(lines[at + 1:at + 3]))]
-
-
 def calls_of_run(report: Report, program: str, ends: Ends) -> list[Call]:
-    """Returns the calls of a run's work, which reads its input, or names the file, at first."""
+    """Returns the calls of a run's work, which reads its input, or names the file, at first. After a rename the folder
+    is synced at once."""
     end, trace = traced_run(program, ends.run)
     has_read = ends.run.stdin and ends.command != "hold"
     calls = [*calls_of(trace, "read(0" if has_read else f'"{ends.names[0]}"')]
-    faults = unsynced(calls) + ([] if calls and end == ends.whole else [f"{end}"])
+    lines = [call.line for call in calls]
+    faults = [line for at, line in enumerate(lines) if line.startswith("rename")
+              and not re.match(r'open.*"\.", .* = (\d+)\nfsync\(\1\) += 0$', "\n".join(lines[at + 1:at + 3]))]
+    faults += [] if calls and end == ends.whole else [f"{end}"]
     report.check(f"no call fails: {ends.run.name}", faults)
     return calls
 
