@@ -67,7 +67,7 @@ members_end_object (m ∷ ms) =
 -- ---- objects
 
 -- an object, split at an array in it
-split_at_array : (ms ns : List Member) (name : List ℕ) (vs : List Json)
+pub split_at_array : (ms ns : List Member) (name : List ℕ) (vs : List Json)
     → json_tokens (object_of (ms ++ (name, array_of vs) ∷ ns)) ≡ head_tokens ms name ++ (items_tokens (items_of vs) ++ members_tokens (members_of ns))
 split_at_array ms ns name vs =
     let rest = items_tokens (items_of vs) ++ members_tokens (members_of ns) in

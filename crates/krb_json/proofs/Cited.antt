@@ -4,22 +4,22 @@ unfoldable pub use Rattle.krb_json.specs.Check.{check_members, about_members, ch
 unfoldable pub use Rattle.krb_json.specs.Escaped.{escaped}
 unfoldable pub use Rattle.krb_json.specs.Keytab.{entry_value, keytab_value, key_members, owner_members}
 unfoldable pub use Rattle.krb_json.specs.Members.{file_members, etype_members, text_member}
-pub use Rattle.std.proofs.Common.{◌++◌, ◌∙◌, [], sym, ap, ◌≡◌, ◌∷◌, false, List, ℕ, codes, refl, Bool, append_assoc, Some, true, subst, None, Option, cond, ◌<◌, ◌≤◌, arith, append-nil, length, ◌^◌, map, rules, option_and_then, suc, inr, fold, inl, take, ◌==◌, lit<, ◌%◌, Err, IsAscii, ◌&&◌, IsUtf8, ◌+◌, ap₂, Ok, Result, is_some, zero, drop, not, ◌/◌, Bor, get_or, ℤ, pos, option_map, FitsSigned, w64}
+pub use Rattle.std.proofs.Common.{◌++◌, ◌∙◌, [], sym, ap, ◌≡◌, ◌∷◌, false, List, ℕ, codes, refl, Bool, append_assoc, Some, true, subst, None, Option, cond, ◌<◌, ◌≤◌, arith, append-nil, length, ◌^◌, map, rules, option_and_then, suc, inr, fold, inl, take, ◌==◌, ◌%◌, Err, IsAscii, ◌&&◌, IsUtf8, ◌+◌, ap₂, Ok, Result, is_some, zero, drop, ◌/◌, Bor, get_or, ℤ, pos, option_map, w64}
 pub use Rattle.std.proofs.lemmas.Bool.{lt-ltb, ne_eqb, and_parts, leb-true, false≢true, ltb-true, or_parts, eqb-true, cases_lt, or_cases, cases_Bool, le-ltb, and_right, cases_eq, and_left, ltb-false, not-true, and_from, lt-leb, false_from_ne_true}
 pub use Rattle.std.proofs.lemmas.Result.{on_ok_weaker, err_from_is_err_and, on_err_weaker, IfOk-weaker}
 pub use Rattle.std.specs.List.{flat_map, list_any, cons_option, prefix_len}
 pub use Rattle.std.specs.Prelude.{IsFalse, ltb, filter, ⊤, slice_index_or}
 pub use Rattle.std.specs.Str.{is_utf8, bytes_eq}
 pub use Rattle.krb_json.specs.Cache.{own_server_member, offset_value, integer_or_null, name_of_etype, config_values, ticket_values, shown_values, about_member, cache_json_text, shown_by}
-pub use Rattle.krb_json.specs.Check.{mode_value, finding_value, first_members, missing_value, entry_finding, entry_findings, finding_values, check_json_text}
+pub use Rattle.krb_json.specs.Check.{mode_value, finding_value, missing_value, entry_finding, entry_findings, finding_values, check_json_text}
 pub use Rattle.krb_json.specs.Escaped.{text_of, is_special, is_pair, json_text, escape, is_second, held, single}
 pub use Rattle.krb_json.specs.Keytab.{entry_values, keytab_json_text}
 pub use Rattle.krb_json.specs.Members.{number_of, Member, object_of, members_of, text_or_null, fault_value, array_of, digits_of, status_members}
-pub use Rattle.krb_json.specs.Pieces.{elements_text, ArePlain, member_tokens, head_tokens, between_tokens, element_text, tokens_of, tail_tokens, arrays_text, IsPlain, Adds, AddsAfter, Begins}
+pub use Rattle.krb_json.specs.Pieces.{elements_text, ArePlain, member_tokens, head_tokens, between_tokens, element_text, tokens_of, tail_tokens, arrays_text, Adds, AddsAfter, Begins}
 pub use Rattle.krb_json.specs.declared.elements.Elements.{Elements}
 pub use Rattle.json.specs.Json.{Json, document, if_last, max_depth, value}
 pub use Rattle.json.specs.Token.{key, begin_object, string, Token, begin_array, end_object, end_array, null, boolean, number, bad}
-pub use Rattle.json.specs.Tree.{json_tokens, depth, HasNumbers, members_tokens, members_depth, ItemsHaveNumbers, items_depth, items_tokens, MembersHaveNumbers}
+pub use Rattle.json.specs.Tree.{json_tokens, depth, HasNumbers, members_tokens, members_depth, items_depth, items_tokens}
 pub use Rattle.krb_ccache.specs.Config.{config_parts, config_name, ConfigParts}
 pub use Rattle.krb_ccache.specs.Store.{placed_credentials, CacheState, PlacedCredential, version_byte}
 pub use Rattle.krb_text.proofs.Passing.{gathers_memory, gathers_prints, passed_none, gathers_fails, passed_fail, passed_last}

@@ -3,7 +3,8 @@ use Rattle.std.specs.Prelude.{ℕ, ◌≡◌, ◌≤◌, List, [], ◌∷◌, �
 use Rattle.std.specs.List.{AllByRecursion}
 use Rattle.json.specs.Json.{Json}
 use Rattle.json.specs.Token.{Token, begin_object, end_object, begin_array, end_array, key}
-use Rattle.json.specs.Tree.{json_tokens, depth, HasNumbers}
+use Rattle.json.specs.Print.{ArePrintableOrBad}
+use Rattle.json.specs.Tree.{json_tokens, depth}
 use Rattle.krb_ccache.specs.Store.{CacheState, PlacedCredential, placed_credentials}
 use Rattle.krb_files.specs.declared.output.OutFault.{OutFault}
 use Rattle.krb_files.specs.Bytes.{Watch}
@@ -54,9 +55,9 @@ after_tickets xs = text_of (between_tokens (codes "config")) ++ elements_text fa
 abbrev pub arrays_text : CacheState → List ℕ
 arrays_text k = elements_text false (ticket_values (placed_credentials k)) ++ after_tickets (placed_credentials k)
 
--- a value that a reader reads back: its numbers are JSON numbers, and it nests at most two levels deep
+-- a value that a reader reads back: its tokens were printed, and it nests at most two levels deep
 pub record IsPlain (v : Json) : Type 0 where
-  pub numbers : HasNumbers v
+  pub printed : ArePrintableOrBad (json_tokens v)
   pub flat : depth v ≤ 2
 
 -- such values
@@ -66,6 +67,7 @@ ArePlain vs = AllByRecursion IsPlain vs
 -- the text of tokens was gathered after what was gathered before, and an array begins
 pub record Begins {A : Type 0} (before : List ℕ) (after : Elements A) (ts : List Token) : Type 0 where
   pub text : after.gathered.items ≡ before ++ text_of ts
+  pub printed : ArePrintableOrBad ts
   pub empty : after.piece ≡ []
   pub first : after.is_after ≡ false
 

@@ -1,15 +1,14 @@
 //! A credential cache as JSON.
 
-ghost use Rattle.std.specs.Prelude.{◌≡◌, [], ◌∷◌, Some, OnOk, IsFalse, codes, false};
+ghost use Rattle.std.specs.Prelude.{◌≡◌, [], Some, OnOk, IsFalse, codes, false};
 ghost use Rattle.std.specs.List.{cons_option};
 ghost use Rattle.json.specs.Json.{document};
 ghost use Rattle.krb_ccache.specs.Config.{config_name};
-ghost use Rattle.krb_ccache.specs.Header.{offset_in};
 ghost use Rattle.krb_ccache.specs.Store.{version_byte, placed_credentials};
 ghost use Rattle.krb_text.specs.Gathered.{Gathers, Prints};
 ghost use Rattle.krb_json.specs.Escaped.{json_text};
-ghost use Rattle.krb_json.specs.Cache.{cache_members, offset_value, shown_by, shown_values, ticket_values, config_values, cache_value, cache_json_text};
-ghost use Rattle.krb_json.specs.Pieces.{Adds, ArePlain, Begins, IsPlain, arrays_text, head_tokens};
+ghost use Rattle.krb_json.specs.Cache.{cache_members, shown_by, shown_values, ticket_values, config_values, cache_value, cache_json_text};
+ghost use Rattle.krb_json.specs.Pieces.{Adds, ArePlain, Begins, arrays_text, head_tokens};
 
 use crate::elements::Elements;
 use crate::put::Label;
@@ -35,9 +34,8 @@ fn begin<A: Allocator + Copy, B: Allocator>(
     elements: &mut Elements<A>,
 ) -> Result<(), NoMemory>
     requires { elements.old.piece ≡ [] }
-    ensures begins { OnOk result (Begins elements.old.gathered.items elements.new
+    ensures { OnOk result (Begins elements.old.gathered.items elements.new
         (head_tokens (cache_members file.now cache.now.state) (codes "tickets"))) }
-    ensures plain { OnOk result (IsPlain (offset_value (offset_in cache.now.state.header))) }
 {
     let piece = &mut elements.piece;
     piece.begin_file(file, "ccache", version_number(cache.version()))?;
@@ -54,6 +52,7 @@ enum Shown {
 }
 
 // Sends a credential if the array holds it.
+#[tactic(auto, using(crate::proofs::ReadBack::ticket_flat, crate::proofs::ReadBack::config_flat))]
 fn send_if_shown<A: Allocator + Copy, W: Write>(
     shown: Shown,
     place: u32,

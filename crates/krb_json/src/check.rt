@@ -6,8 +6,7 @@ ghost use Rattle.json.specs.Json.{document};
 ghost use Rattle.krb_text.specs.Gathered.{Prints};
 ghost use Rattle.krb_json.specs.Check.{check_json_text, check_members, check_value, entry_finding, entry_findings, file_findings, finding_values, missing_value};
 ghost use Rattle.krb_json.specs.Escaped.{json_text};
-ghost use Rattle.krb_json.specs.Members.{object_of};
-ghost use Rattle.krb_json.specs.Pieces.{Adds, Begins, IsPlain, head_tokens};
+ghost use Rattle.krb_json.specs.Pieces.{Adds, Begins, head_tokens};
 
 use crate::elements::Elements;
 use krb_audit::{CheckUp, Marked, is_open_file};
@@ -24,8 +23,8 @@ fn begin<A: Allocator + Copy, B: Allocator>(
     elements: &mut Elements<A>,
 ) -> Result<(), NoMemory>
     requires { elements.old.piece ≡ [] }
-    ensures begins { OnOk result (Begins elements.old.gathered.items elements.new (head_tokens (check_members file.now found.now.mode found.now.counts) (codes "findings"))) }
-    ensures plain { OnOk result (IsPlain (object_of (check_members file.now found.now.mode found.now.counts))) }
+    ensures { OnOk result (Begins elements.old.gathered.items elements.new
+        (head_tokens (check_members file.now found.now.mode found.now.counts) (codes "findings"))) }
 {
     elements
         .piece

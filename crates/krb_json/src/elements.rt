@@ -1,13 +1,14 @@
 //! The elements of an array of JSON, which are written as they fill up.
 
-ghost use Rattle.std.specs.Prelude.{◌≡◌, ◌++◌, [], ◌∷◌, List, OnOk, IfOk, IsFalse, codes};
+ghost use Rattle.std.specs.Prelude.{◌≡◌, ◌≤◌, ◌++◌, [], ◌∷◌, List, OnOk, IfOk, IsFalse, codes};
 ghost use Rattle.json.specs.Json.{Json};
+ghost use Rattle.json.specs.Print.{ArePrintableOrBad};
 ghost use Rattle.json.specs.Token.{Token, begin_array, key};
-ghost use Rattle.json.specs.Tree.{json_tokens};
+ghost use Rattle.json.specs.Tree.{depth, json_tokens};
 ghost use Rattle.krb_text.specs.Gathered.{Prints};
 ghost use Rattle.krb_json.specs.Escaped.{text_of};
 ghost use Rattle.krb_json.specs.Members.{fault_value, status_members};
-ghost use Rattle.krb_json.specs.Pieces.{Adds, Begins, IsPlain, between_tokens, tail_tokens};
+ghost use Rattle.krb_json.specs.Pieces.{Adds, Begins, between_tokens, tail_tokens};
 
 use crate::piece::Piece;
 use krb_files::{OutFault, Watched, put};
@@ -63,7 +64,7 @@ impl<A: Allocator + Copy> Elements<A> {
     /// Gathers the piece's text as an element, and writes what is gathered if it fills up.
     pub fn send<W: Write>(&mut self, out: &mut Watched<W>) -> Result<(), OutFault>
         requires { IsFalse out.old.failed }
-        ensures { (v : Json) (none : List Token) → self.old.piece ≡ none ++ json_tokens v → none ≡ [] → IsPlain v
+        ensures { (v : Json) (none : List Token) → self.old.piece ≡ none ++ json_tokens v → none ≡ [] → depth v ≤ 2
             → Adds out.old out.new self.old self.new result (v ∷ []) }
     {
         self.piece.append_to(self.is_after, &mut self.gathered)?;
@@ -77,7 +78,8 @@ impl<A: Allocator + Copy> Elements<A> {
         requires { self.old.piece ≡ [] }
         ensures text { OnOk result (self.new.gathered.items ≡ self.old.gathered.items
             ++ (text_of (tail_tokens ((codes "fault", fault_value fault) ∷ status_members status)) ++ codes "\n")) }
-        ensures plain { OnOk result (IsPlain (fault_value fault)) }
+        ensures printed { OnOk result (ArePrintableOrBad
+            (tail_tokens ((codes "fault", fault_value fault) ∷ status_members status))) }
     {
         self.piece.end_file(fault, status)?;
         self.piece.append_to(false, &mut self.gathered)?;
@@ -95,7 +97,8 @@ impl<A: Allocator + Copy> Elements<A> {
         requires empty { self.old.piece ≡ [] }
         ensures prints { Prints out.old out.new result (self.old.gathered.items
             ++ (text_of (tail_tokens ((codes "fault", fault_value fault) ∷ status_members status)) ++ codes "\n")) }
-        ensures plain { OnOk result (IsPlain (fault_value fault)) }
+        ensures printed { OnOk result (ArePrintableOrBad
+            (tail_tokens ((codes "fault", fault_value fault) ∷ status_members status))) }
     {
         self.append_tail(fault, status)?;
         put(out, &self.gathered)

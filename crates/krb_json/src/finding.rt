@@ -3,11 +3,10 @@
 ghost use Rattle.std.specs.Prelude.{◌≡◌, ◌++◌, [], ◌∷◌, OnOk, codes};
 ghost use Rattle.json.specs.Token.{begin_object};
 ghost use Rattle.json.specs.Json.{string};
-ghost use Rattle.json.specs.Tree.{json_tokens, MembersHaveNumbers};
+ghost use Rattle.json.specs.Tree.{json_tokens};
 ghost use Rattle.krb_findings.specs.Table.{row_of};
 ghost use Rattle.krb_json.specs.Check.{check_members, finding_value, first_members, about_members, missing_value};
-ghost use Rattle.krb_json.specs.Members.{members_of, object_of};
-ghost use Rattle.krb_json.specs.Pieces.{member_tokens, tokens_of, IsPlain};
+ghost use Rattle.krb_json.specs.Pieces.{member_tokens, tokens_of};
 
 use crate::piece::Piece;
 use crate::put::Label;
@@ -26,9 +25,8 @@ impl<A: Allocator> Piece<A> {
         mode: Option<u32>,
         counts: Counts,
     ) -> Result<(), NoMemory>
-        ensures tokens { OnOk result (self.new
+        ensures { OnOk result (self.new
             ≡ self.old ++ begin_object ∷ tokens_of (check_members file.now mode counts)) }
-        ensures plain { OnOk result (IsPlain (object_of (check_members file.now mode counts))) }
     {
         self.begin_object()?;
         self.string("file", file)?;
@@ -50,20 +48,16 @@ impl<A: Allocator> Piece<A> {
     }
 
     /// Writes a finding about the file as an object.
-    #[tactic(auto, using(crate::proofs::ReadBack::file_finding_is_plain))]
     pub fn file_finding(&mut self, finding: Finding) -> Result<(), NoMemory>
-        ensures tokens { OnOk result (self.new ≡ self.old ++ json_tokens (finding_value finding [])) }
-        ensures plain { OnOk result (IsPlain (finding_value finding [])) }
+        ensures { OnOk result (self.new ≡ self.old ++ json_tokens (finding_value finding [])) }
     {
         self.begin_finding(finding)?;
         self.end_object()
     }
 
     // Writes the place of the first entry that is alike, if it is given.
-    #[tactic(auto, using(crate::proofs::ReadBack::first_numbers))]
     fn first(&mut self, first: Option<u32>) -> Result<(), NoMemory>
-        ensures tokens { OnOk result (self.new ≡ self.old ++ tokens_of (first_members first)) }
-        ensures numbers { OnOk result (MembersHaveNumbers (members_of (first_members first))) }
+        ensures { OnOk result (self.new ≡ self.old ++ tokens_of (first_members first)) }
     {
         match first {
             Some(first) => self.number("first", first as u64),
@@ -79,9 +73,8 @@ impl<A: Allocator> Piece<A> {
         place: u32,
         entry: &EntryView<'_>,
     ) -> Result<(), NoMemory>
-        ensures tokens { OnOk result (self.new
+        ensures { OnOk result (self.new
             ≡ self.old ++ tokens_of (about_members first (place, entry.now))) }
-        ensures plain { OnOk result (IsPlain (object_of (about_members first (place, entry.now)))) }
     {
         self.number("place", place as u64)?;
         self.first(first)?;
@@ -91,7 +84,6 @@ impl<A: Allocator> Piece<A> {
     }
 
     /// Writes a finding about an entry as an object, with the place of the first entry that is alike if it is given.
-    #[tactic(auto, using(crate::proofs::ReadBack::finding_is_plain))]
     pub fn entry_finding(
         &mut self,
         finding: Finding,
@@ -99,20 +91,18 @@ impl<A: Allocator> Piece<A> {
         place: u32,
         entry: &EntryView<'_>,
     ) -> Result<(), NoMemory>
-        ensures tokens { OnOk result (self.new
+        ensures { OnOk result (self.new
             ≡ self.old ++ json_tokens (finding_value finding (about_members first (place, entry.now)))) }
-        ensures plain { OnOk result (IsPlain (finding_value finding (about_members first (place, entry.now)))) }
     {
         self.begin_finding(finding)?;
         self.about_entry(first, place, entry)?;
-        self.end_object()
+        self.end_object()?;
+        Ok(())
     }
 
     /// Writes a name that is missing as an object.
-    #[tactic(auto, using(crate::proofs::ReadBack::missing_is_plain))]
     pub fn missing(&mut self, name: &[u8]) -> Result<(), NoMemory>
-        ensures tokens { OnOk result (self.new ≡ self.old ++ json_tokens (missing_value name.now)) }
-        ensures plain { OnOk result (IsPlain (missing_value name.now)) }
+        ensures { OnOk result (self.new ≡ self.old ++ json_tokens (missing_value name.now)) }
     {
         self.begin_finding(Finding::Missing)?;
         self.text(Label::Principal, name)?;

@@ -4,7 +4,7 @@ ghost use Rattle.std.specs.Prelude.{◌≡◌, ◌++◌, ◌∷◌, OnOk, codes}
 ghost use Rattle.json.specs.Token.{begin_object};
 ghost use Rattle.krb_json.specs.Cache.{offset_value};
 ghost use Rattle.krb_json.specs.Members.{file_members, fault_value, status_members};
-ghost use Rattle.krb_json.specs.Pieces.{member_tokens, tokens_of, tail_tokens, IsPlain};
+ghost use Rattle.krb_json.specs.Pieces.{member_tokens, tokens_of, tail_tokens};
 
 use crate::piece::Piece;
 use krb_ccache::Offset;
@@ -21,14 +21,13 @@ impl<A: Allocator> Piece<A> {
         self.begin_object()?;
         self.string("file", file)?;
         self.string("kind", kind)?;
-        self.number("version", version)
+        self.number("version", version)?;
+        Ok(())
     }
 
     /// Writes the time offset of a cache, or null if it has none.
-    #[tactic(auto, using(crate::proofs::ReadBack::offset_is_plain, crate::proofs::ReadBack::no_fault_is_plain))]
     pub fn offset(&mut self, offset: Option<Offset>) -> Result<(), NoMemory>
-        ensures tokens { OnOk result (self.new ≡ self.old ++ member_tokens (codes "offset", offset_value offset)) }
-        ensures plain { OnOk result (IsPlain (offset_value offset)) }
+        ensures { OnOk result (self.new ≡ self.old ++ member_tokens (codes "offset", offset_value offset)) }
     {
         let Some(offset) = offset else {
             return self.null("offset");
@@ -36,14 +35,13 @@ impl<A: Allocator> Piece<A> {
         self.begin_object_at("offset")?;
         self.integer("seconds", Some(offset.seconds as i64))?;
         self.integer("microseconds", Some(offset.micros as i64))?;
-        self.end_object()
+        self.end_object()?;
+        Ok(())
     }
 
     // Writes the kind and the place of the fault, or null if there is none.
-    #[tactic(auto, using(crate::proofs::ReadBack::fault_is_plain, crate::proofs::ReadBack::no_fault_is_plain))]
     fn fault(&mut self, fault: Option<Fault>) -> Result<(), NoMemory>
-        ensures tokens { OnOk result (self.new ≡ self.old ++ member_tokens (codes "fault", fault_value fault)) }
-        ensures plain { OnOk result (IsPlain (fault_value fault)) }
+        ensures { OnOk result (self.new ≡ self.old ++ member_tokens (codes "fault", fault_value fault)) }
     {
         let Some(fault) = fault else {
             return self.null("fault");
@@ -67,9 +65,8 @@ impl<A: Allocator> Piece<A> {
     /// Ends the last array, writes the fault, or null if there is none, and the status if it is given, and ends the
     /// object of the file.
     pub fn end_file(&mut self, fault: Option<Fault>, status: Option<u8>) -> Result<(), NoMemory>
-        ensures tokens { OnOk result (self.new
+        ensures { OnOk result (self.new
             ≡ self.old ++ tail_tokens ((codes "fault", fault_value fault) ∷ status_members status)) }
-        ensures plain { OnOk result (IsPlain (fault_value fault)) }
     {
         self.end_array()?;
         self.fault(fault)?;

@@ -1,13 +1,13 @@
 //! A keytab as JSON.
 
-ghost use Rattle.std.specs.Prelude.{◌≡◌, ◌++◌, [], ◌∷◌, Some, OnOk, IsFalse, codes, ◌<◌, ◌^◌};
+ghost use Rattle.std.specs.Prelude.{◌≡◌, ◌++◌, [], ◌∷◌, Some, OnOk, IsFalse, codes};
 ghost use Rattle.krb_wire.specs.Spelling.{version_byte};
 ghost use Rattle.krb_text.specs.Gathered.{Prints};
 ghost use Rattle.json.specs.Json.{document};
 ghost use Rattle.krb_json.specs.Escaped.{json_text};
 ghost use Rattle.krb_json.specs.Members.{file_members};
 ghost use Rattle.krb_json.specs.Keytab.{entry_values, keytab_value, keytab_json_text, owner_members, key_members, entry_value};
-ghost use Rattle.krb_json.specs.Pieces.{Adds, Begins, head_tokens, tokens_of, IsPlain};
+ghost use Rattle.krb_json.specs.Pieces.{Adds, Begins, head_tokens, tokens_of};
 ghost use Rattle.json.specs.Tree.{json_tokens};
 
 use crate::elements::Elements;
@@ -23,8 +23,7 @@ impl<A: Allocator> Piece<A> {
     // Writes an entry's place, principal and kvno.
     #[tactic(auto, unfolding(crate::specs::Keytab::owner_members))]
     fn owner(&mut self, place: u32, entry: &EntryView<'_>) -> Result<(), NoMemory>
-        ensures tokens { OnOk result (self.new ≡ self.old ++ tokens_of (owner_members (place, entry.now))) }
-        ensures version { OnOk result (entry.now.version < 2 ^ 32) }
+        ensures { OnOk result (self.new ≡ self.old ++ tokens_of (owner_members (place, entry.now))) }
     {
         self.number("place", place as u64)?;
         self.name(Label::Principal, entry.principal())?;
@@ -49,16 +48,16 @@ impl<A: Allocator> Piece<A> {
         entry: &EntryView<'_>,
         shows_keys: bool,
     ) -> Result<(), NoMemory>
-        ensures tokens { OnOk result (self.new
+        ensures { OnOk result (self.new
             ≡ self.old ++ json_tokens (entry_value shows_keys (place, entry.now))) }
-        ensures plain { OnOk result (IsPlain (entry_value shows_keys (place, entry.now))) }
     {
         self.begin_object()?;
         self.owner(place, entry)?;
         self.etype(entry.enctype())?;
         self.number("timestamp", entry.timestamp() as u64)?;
         self.key(shows_keys, entry.key())?;
-        self.end_object()
+        self.end_object()?;
+        Ok(())
     }
 }
 

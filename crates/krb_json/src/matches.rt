@@ -3,13 +3,13 @@
 ghost use Rattle.std.specs.Prelude.{◌≡◌, ◌++◌, [], ◌∷◌, Some, OnOk, IsFalse, codes, map, take};
 ghost use Rattle.json.specs.Json.{document};
 ghost use Rattle.json.specs.Token.{begin_object};
-ghost use Rattle.json.specs.Tree.{HasNumbers, MembersHaveNumbers, items_tokens, json_tokens};
+ghost use Rattle.json.specs.Tree.{items_tokens, json_tokens};
 ghost use Rattle.json.specs.Value.{items_of};
 ghost use Rattle.krb_text.specs.Gathered.{Prints};
 ghost use Rattle.krb_json.specs.Escaped.{json_text};
 ghost use Rattle.krb_json.specs.Matches.{etypes_value, found, judgement_members, match_json_text, match_members, match_value, matches_value, ticket_numbers};
-ghost use Rattle.krb_json.specs.Members.{array_of, members_of, number_of};
-ghost use Rattle.krb_json.specs.Pieces.{Adds, Begins, IsPlain, head_tokens, member_tokens, tokens_of};
+ghost use Rattle.krb_json.specs.Members.{array_of, number_of};
+ghost use Rattle.krb_json.specs.Pieces.{Adds, Begins, head_tokens, member_tokens, tokens_of};
 
 use crate::elements::Elements;
 use crate::piece::Piece;
@@ -48,9 +48,8 @@ impl<A: Allocator> Piece<A> {
 
     // Writes enctypes as the elements of an array, and ends it.
     fn elements(&mut self, etypes: &[u32]) -> Result<(), NoMemory>
-        ensures tokens { OnOk result (self.new
+        ensures { OnOk result (self.new
             ≡ self.old ++ items_tokens (items_of (map number_of etypes.now))) }
-        ensures numbers { OnOk result (HasNumbers (array_of (map number_of etypes.now))) }
     {
         'etypes: for etype in etypes {
             self.element(u64::from(*etype))?;
@@ -60,9 +59,8 @@ impl<A: Allocator> Piece<A> {
 
     // Writes at most eight enctypes.
     fn etypes(&mut self, etypes: &[u32]) -> Result<(), NoMemory>
-        ensures tokens { OnOk result (self.new
+        ensures { OnOk result (self.new
             ≡ self.old ++ member_tokens (codes "keytab_etypes", array_of (map number_of (take 8 etypes.now)))) }
-        ensures numbers { OnOk result (HasNumbers (array_of (map number_of (take 8 etypes.now)))) }
     {
         self.begin_array("keytab_etypes")?;
         self.elements(&etypes[..etypes.len().min(8)])
@@ -70,9 +68,8 @@ impl<A: Allocator> Piece<A> {
 
     // Writes the enctypes that fit a ticket, if none of them is its own, or null.
     fn keytab_etypes(&mut self, judgement: &Judgement) -> Result<(), NoMemory>
-        ensures tokens { OnOk result (self.new
+        ensures { OnOk result (self.new
             ≡ self.old ++ member_tokens (codes "keytab_etypes", etypes_value judgement.now)) }
-        ensures numbers { OnOk result (HasNumbers (etypes_value judgement.now)) }
     {
         match judgement {
             Judgement::Etype(etypes) => self.etypes(etypes.as_slice()),
@@ -83,38 +80,35 @@ impl<A: Allocator> Piece<A> {
     // Writes the version and the enctype of a ticket.
     #[tactic(auto, unfolding(crate::specs::Matches::ticket_numbers))]
     fn ticket_numbers(&mut self, encryption: Option<TicketEncryption>) -> Result<(), NoMemory>
-        ensures tokens { OnOk result (self.new ≡ self.old ++ tokens_of (ticket_numbers encryption)) }
-        ensures numbers { OnOk result (MembersHaveNumbers (members_of (ticket_numbers encryption))) }
+        ensures { OnOk result (self.new ≡ self.old ++ tokens_of (ticket_numbers encryption)) }
     {
         self.integer("kvno", kvno_of(encryption))?;
         self.integer("etype", encryption.map(|it| it.etype as i64))
     }
 
     // Writes what is said of a ticket.
-    #[tactic(auto, unfolding(crate::specs::Matches::judgement_members))]
     fn judgement(&mut self, judgement: &Judgement) -> Result<(), NoMemory>
-        ensures tokens { OnOk result (self.new ≡ self.old ++ tokens_of (judgement_members judgement.now)) }
-        ensures numbers { OnOk result (MembersHaveNumbers (members_of (judgement_members judgement.now))) }
+        ensures { OnOk result (self.new ≡ self.old ++ tokens_of (judgement_members judgement.now)) }
     {
         let (place, newest) = found(judgement);
         self.string("match", judgement.word())?;
         self.integer("keytab_place", place)?;
         self.integer("keytab_kvno", newest)?;
-        self.keytab_etypes(judgement)
+        self.keytab_etypes(judgement)?;
+        Ok(())
     }
 
     // Writes a ticket as an object.
-    #[tactic(auto, using(crate::proofs::ReadBack::match_is_plain))]
     fn matched<B: Allocator>(&mut self, ticket: &MatchedTicket<B>) -> Result<(), NoMemory>
-        ensures tokens { OnOk result (self.new ≡ self.old ++ json_tokens (match_value ticket.now)) }
-        ensures plain { OnOk result (IsPlain (match_value ticket.now)) }
+        ensures { OnOk result (self.new ≡ self.old ++ json_tokens (match_value ticket.now)) }
     {
         self.begin_object()?;
         self.number("place", ticket.place as u64)?;
         self.text(Label::Name, ticket.name())?;
         self.ticket_numbers(ticket.encryption)?;
         self.judgement(&ticket.judgement)?;
-        self.end_object()
+        self.end_object()?;
+        Ok(())
     }
 }
 

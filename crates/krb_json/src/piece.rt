@@ -1,8 +1,10 @@
 //! A piece of JSON text, made of tokens.
 
 ghost use Rattle.std.specs.Prelude.{◌≡◌, ◌++◌, [], ◌∷◌, OnOk, not, option_copied};
-ghost use Rattle.json.specs.Token.{begin_object, end_object, begin_array, end_array, key, string, boolean, null};
-ghost use Rattle.json.specs.Tree.{HasNumbers, json_tokens};
+ghost use Rattle.json.specs.Json.{boolean, null, string};
+ghost use Rattle.json.specs.Token.{begin_object, end_object, begin_array, end_array, key};
+ghost use Rattle.json.specs.Print.{ArePrintableOrBad};
+ghost use Rattle.json.specs.Tree.{json_tokens};
 ghost use Rattle.krb_wire.specs.Names.{name_text};
 ghost use Rattle.krb_text.specs.Flags.{flag_letters_of};
 ghost use Rattle.krb_json.specs.Cache.{integer_or_null};
@@ -59,6 +61,7 @@ impl<A: Allocator + Copy> Piece<A> {
     }
 
     /// Appends the piece's text to `gathered`, after a comma if it is an element after others, and empties the piece.
+    #[tactic(auto, using(crate::proofs::ReadBack::tokens_printed))]
     pub fn append_to<B: Allocator>(
         &mut self,
         is_after: bool,
@@ -66,6 +69,7 @@ impl<A: Allocator + Copy> Piece<A> {
     ) -> Result<(), NoMemory>
         ensures text { OnOk result (gathered.new.items
             ≡ gathered.old.items ++ (comma_after is_after ++ text_of self.old)) }
+        ensures printed { OnOk result (ArePrintableOrBad self.old) }
         ensures empty { OnOk result (self.new ≡ []) }
     {
         if is_after {
@@ -120,7 +124,7 @@ impl<A: Allocator> Piece<A> {
 
     /// Writes a member that is null.
     pub fn null(&mut self, name: &str) -> Result<(), NoMemory>
-        ensures { OnOk result (self.new ≡ self.old ++ key name.now ∷ null ∷ []) }
+        ensures { OnOk result (self.new ≡ self.old ++ member_tokens (name.now, null)) }
     {
         self.writer.key(name)?;
         Ok(self.writer.null()?)
@@ -128,7 +132,7 @@ impl<A: Allocator> Piece<A> {
 
     /// Writes a member that is true or false.
     pub fn boolean(&mut self, name: &str, value: bool) -> Result<(), NoMemory>
-        ensures { OnOk result (self.new ≡ self.old ++ key name.now ∷ boolean value ∷ []) }
+        ensures { OnOk result (self.new ≡ self.old ++ member_tokens (name.now, boolean value)) }
     {
         self.writer.key(name)?;
         Ok(self.writer.boolean(value)?)
@@ -151,11 +155,8 @@ impl<A: Allocator> Piece<A> {
     }
 
     /// Writes a member that is an integer, or null if there is none.
-    #[tactic(auto, using(crate::proofs::ReadBack::integer_numbers))]
     pub fn integer(&mut self, name: &str, value: Option<i64>) -> Result<(), NoMemory>
-        ensures tokens { OnOk result (self.new
-            ≡ self.old ++ member_tokens (name.now, integer_or_null value)) }
-        ensures numbers { OnOk result (HasNumbers (integer_or_null value)) }
+        ensures { OnOk result (self.new ≡ self.old ++ member_tokens (name.now, integer_or_null value)) }
     {
         let Some(value) = value else {
             return self.null(name);
@@ -166,7 +167,7 @@ impl<A: Allocator> Piece<A> {
 
     /// Writes a member that is a string of the program's own.
     pub fn string(&mut self, name: &str, value: &str) -> Result<(), NoMemory>
-        ensures { OnOk result (self.new ≡ self.old ++ key name.now ∷ string value.now ∷ []) }
+        ensures { OnOk result (self.new ≡ self.old ++ member_tokens (name.now, string value.now)) }
     {
         self.writer.key(name)?;
         Ok(self.writer.string(value)?)
@@ -211,7 +212,7 @@ impl<A: Allocator> Piece<A> {
     /// Writes a member that is the letters of ticket flags.
     #[tactic(auto, using(crate::proofs::Texts::letters_are_text))]
     pub fn letters(&mut self, name: &str, flags: u32) -> Result<(), NoMemory>
-        ensures { OnOk result (self.new ≡ self.old ++ key name.now ∷ string (flag_letters_of flags) ∷ []) }
+        ensures { OnOk result (self.new ≡ self.old ++ member_tokens (name.now, string (flag_letters_of flags))) }
     {
         self.text.clear();
         flag_letters(flags, &mut self.text)?;
@@ -240,11 +241,11 @@ impl<A: Allocator> Piece<A> {
     }
 
     /// Writes an enctype as two members: its number, and its name, or null if it has none.
-    #[tactic(auto, unfolding(crate::specs::Members::etype_members))]
     pub fn etype(&mut self, etype: u16) -> Result<(), NoMemory>
         ensures { OnOk result (self.new ≡ self.old ++ tokens_of (etype_members etype)) }
     {
         self.number("etype", etype as u64)?;
-        self.string_or_null("etype_name", etype_name(etype))
+        self.string_or_null("etype_name", etype_name(etype))?;
+        Ok(())
     }
 }

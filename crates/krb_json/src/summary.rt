@@ -2,7 +2,7 @@
 
 ghost use Rattle.std.specs.Prelude.{◌≡◌, ◌++◌, Some, OnOk, codes};
 ghost use Rattle.json.specs.Json.{document};
-ghost use Rattle.json.specs.Tree.{json_tokens, HasNumbers};
+ghost use Rattle.json.specs.Tree.{json_tokens};
 ghost use Rattle.krb_json.specs.Escaped.{json_text};
 ghost use Rattle.krb_json.specs.Summary.{number_or_null, summary_value, summary_text};
 ghost use Rattle.krb_json.specs.Pieces.{member_tokens};
@@ -25,11 +25,9 @@ pub struct CacheSummary {
 
 impl<A: Allocator> Piece<A> {
     // Writes the endtime, or null if there is none.
-    #[tactic(auto, using(crate::proofs::ReadBack::end_numbers))]
     fn endtime(&mut self, endtime: Option<u32>) -> Result<(), NoMemory>
-        ensures tokens { OnOk result (self.new
+        ensures { OnOk result (self.new
             ≡ self.old ++ member_tokens (codes "endtime", number_or_null endtime)) }
-        ensures numbers { OnOk result (HasNumbers (number_or_null endtime)) }
     {
         match endtime {
             Some(seconds) => self.number("endtime", seconds as u64),
@@ -38,18 +36,14 @@ impl<A: Allocator> Piece<A> {
     }
 
     // Writes a cache in an overview as an object.
-    #[tactic(auto, unfolding(crate::specs::Summary::summary_value))]
     fn summary<N: Name>(
         &mut self,
         file: &str,
         principal: &N,
         summary: CacheSummary,
     ) -> Result<(), NoMemory>
-        ensures tokens { OnOk result (self.new
+        ensures { OnOk result (self.new
             ≡ self.old ++ json_tokens (summary_value file.now (N.parts principal.now) summary)) }
-        ensures reads_back { OnOk result (document (json_text
-            (summary_value file.now (N.parts principal.now) summary))
-            ≡ Some (summary_value file.now (N.parts principal.now) summary)) }
     {
         self.begin_object()?;
         self.string("file", file)?;

@@ -1,13 +1,11 @@
 //! JSON of the tickets and of the configuration entries of a cache.
 
-ghost use Rattle.std.specs.Prelude.{◌≡◌, ◌<◌, ◌^◌, length, ◌++◌, OnOk, pos, option_map, option_and_then, option_copied};
-ghost use Rattle.krb_ccache.specs.Credential.{FitsTimes};
+ghost use Rattle.std.specs.Prelude.{◌≡◌, ◌++◌, OnOk, pos, option_map, option_and_then, option_copied};
 ghost use Rattle.krb_ccache.specs.Config.{config_parts};
 ghost use Rattle.krb_ccache.specs.Ticket.{ticket_encryption, ticket_server};
-ghost use Rattle.json.specs.Tree.{json_tokens, HasNumbers, MembersHaveNumbers};
+ghost use Rattle.json.specs.Tree.{json_tokens};
 ghost use Rattle.krb_json.specs.Cache.{party_members, time_members, flag_members, name_of_etype, own_server_member, own_members, size_members, ticket_value, about_member, config_value};
-ghost use Rattle.krb_json.specs.Members.{members_of};
-ghost use Rattle.krb_json.specs.Pieces.{tokens_of, IsPlain, member_tokens};
+ghost use Rattle.krb_json.specs.Pieces.{tokens_of, member_tokens};
 
 use crate::piece::Piece;
 use crate::put::Label;
@@ -42,14 +40,15 @@ impl<A: Allocator + Copy> Piece<A> {
     }
 
     // Writes its four times.
+    #[tactic(auto, using(std::proofs::lemmas::List::append_assoc), unfolding(crate::specs::Cache::time_members))]
     fn times(&mut self, ticket: &CredView<'_>) -> Result<(), NoMemory>
-        ensures tokens { OnOk result (self.new ≡ self.old ++ tokens_of (time_members ticket.now.times)) }
-        ensures fit { OnOk result (FitsTimes ticket.now.times) }
+        ensures { OnOk result (self.new ≡ self.old ++ tokens_of (time_members ticket.now.times)) }
     {
         self.number("authtime", ticket.authtime() as u64)?;
         self.number("starttime", ticket.starttime() as u64)?;
         self.number("endtime", ticket.endtime() as u64)?;
-        self.number("renew_till", ticket.renew_till() as u64)
+        self.number("renew_till", ticket.renew_till() as u64)?;
+        Ok(())
     }
 
     // Writes its flags, as letters and as a number.
@@ -57,15 +56,14 @@ impl<A: Allocator + Copy> Piece<A> {
         ensures { OnOk result (self.new ≡ self.old ++ tokens_of (flag_members flags)) }
     {
         self.letters("flags", flags)?;
-        self.number("flags_value", flags as u64)
+        self.number("flags_value", flags as u64)?;
+        Ok(())
     }
 
     // Writes the server that a ticket names itself, or null if it does not.
-    #[tactic(auto, using(crate::proofs::ReadBack::own_server_numbers))]
     fn own_server(&mut self, ticket: &[u8]) -> Result<(), NoMemory>
-        ensures tokens { OnOk result (self.new
+        ensures { OnOk result (self.new
             ≡ self.old ++ member_tokens (own_server_member (ticket_server ticket.now))) }
-        ensures numbers { OnOk result (HasNumbers (own_server_member (ticket_server ticket.now)).1) }
     {
         match ticket_server(ticket) {
             Some(server) => self.name(Label::TicketServer, &server.copy(self.alloc)?),
@@ -74,40 +72,34 @@ impl<A: Allocator + Copy> Piece<A> {
     }
 
     // Writes a ticket's own enctype, the name of that, the kvno, and its server, or null for what it does not have.
-    #[tactic(auto, unfolding(crate::specs::Cache::own_members))]
     fn own(&mut self, ticket: &[u8]) -> Result<(), NoMemory>
-        ensures tokens { OnOk result (self.new
+        ensures { OnOk result (self.new
             ≡ self.old ++ tokens_of (own_members (ticket_encryption ticket.now) (ticket_server ticket.now))) }
-        ensures numbers { OnOk result (MembersHaveNumbers
-            (members_of (own_members (ticket_encryption ticket.now) (ticket_server ticket.now)))) }
     {
         let encryption = ticket_encryption(ticket);
         self.integer("ticket_etype", encryption.map(|it| it.etype as i64))?;
         self.string_or_null("ticket_etype_name", name_of(encryption))?;
         self.integer("ticket_kvno", kvno_of(encryption))?;
-        self.own_server(ticket)
+        self.own_server(ticket)?;
+        Ok(())
     }
 
     // Writes whether it is encrypted in another ticket's session key, its number of addresses, the ticket's length, and
     // what that has itself.
     fn sizes(&mut self, ticket: &CredView<'_>) -> Result<(), NoMemory>
-        ensures tokens { OnOk result (self.new ≡ self.old ++ tokens_of (size_members ticket.now)) }
-        ensures addresses { OnOk result (length ticket.now.addresses < 2 ^ 64) }
-        ensures ticket { OnOk result (length ticket.now.ticket < 2 ^ 64) }
-        ensures numbers { OnOk result (MembersHaveNumbers (members_of
-            (own_members (ticket_encryption ticket.now.ticket) (ticket_server ticket.now.ticket)))) }
+        ensures { OnOk result (self.new ≡ self.old ++ tokens_of (size_members ticket.now)) }
     {
         self.boolean("is_skey", ticket.is_skey() != 0)?;
         self.number("addresses", ticket.address_count() as u64)?;
         self.number("ticket_length", ticket.ticket().len() as u64)?;
-        self.own(ticket.ticket())
+        self.own(ticket.ticket())?;
+        Ok(())
     }
 
     /// Writes a ticket of a cache as an object.
     pub fn ticket(&mut self, place: u32, ticket: &CredView<'_>) -> Result<(), NoMemory>
-        ensures tokens { OnOk result (self.new
+        ensures { OnOk result (self.new
             ≡ self.old ++ json_tokens (ticket_value (place, ticket.now))) }
-        ensures plain { OnOk result (IsPlain (ticket_value (place, ticket.now))) }
     {
         self.begin_object()?;
         self.parties(place, ticket)?;
@@ -115,7 +107,8 @@ impl<A: Allocator + Copy> Piece<A> {
         self.flags(ticket.flags())?;
         self.etype(ticket.enctype())?;
         self.sizes(ticket)?;
-        self.end_object()
+        self.end_object()?;
+        Ok(())
     }
 }
 
@@ -134,9 +127,8 @@ impl<A: Allocator> Piece<A> {
     /// Writes a configuration entry of a cache as an object.
     #[tactic(auto, unfolding(crate::specs::Cache::config_value))]
     pub fn config(&mut self, place: u32, name: ConfigName<'_>, value: &[u8]) -> Result<(), NoMemory>
-        ensures tokens { OnOk result (self.new
+        ensures { OnOk result (self.new
             ≡ self.old ++ json_tokens (config_value place (config_parts name.entry) value.now)) }
-        ensures plain { OnOk result (IsPlain (config_value place (config_parts name.entry) value.now)) }
     {
         self.begin_object()?;
         self.number("place", place as u64)?;

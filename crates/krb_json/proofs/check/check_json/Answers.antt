@@ -1,4 +1,4 @@
-use Rattle.krb_json.proofs.ForAnswers.{rules, err_from_is_err_and, on_ok_weaker, gathers_prints, gathers_fails, prints_memory, check_is_read, check_text}
+use Rattle.krb_json.proofs.ForAnswers.{err_from_is_err_and, on_ok_weaker, gathers_prints, gathers_fails, prints_memory, check_is_read, check_text}
 use Rattle.krb_json.proofs.check.check_json.Goals as goal
 
 pub returns-in_err-begin-clause-prints : goal.returns-in_err-begin-clause-prints
@@ -10,15 +10,14 @@ pub returns-in_err-send_findings-clause-prints : goal.returns-in_err-send_findin
 returns-in_err-send_findings-clause-prints g c =
     let p = err_from_is_err_and c.from_residual-in_err-send_findings.result c.from_residual-in_err-send_findings.ensures.1 in
     rw (p.1, p.2, check_text c.args.file.now c.args.found.now c.args.status)
-    (gathers_fails _ _ _ _ _ _ _ _ _ c.in_ok-elements.ensures.none c.in_ok-begin.ensures.begins.text (rw c.in_ok-begin.ensures.begins.first at c.in_err-send_findings.ensures.gathers))
+    (gathers_fails _ _ _ _ _ _ _ _ _ c.in_ok-elements.ensures.none c.in_ok-begin.ensures.text (rw c.in_ok-begin.ensures.first at c.in_err-send_findings.ensures.gathers))
 
 pub returns-clause-prints : goal.returns-clause-prints
 returns-clause-prints g c =
     let tail = rw c.fault.ensures at c.end_file.ensures.prints in
     rw (check_text c.args.file.now c.args.found.now c.args.status)
-    (gathers_prints _ _ _ _ _ _ _ _ _ _ _ c.in_ok-elements.ensures.none c.in_ok-begin.ensures.begins.text (rw c.in_ok-begin.ensures.begins.first at c.in_ok-send_findings.ensures.gathers) tail)
+    (gathers_prints _ _ _ _ _ _ _ _ _ _ _ c.in_ok-elements.ensures.none c.in_ok-begin.ensures.text (rw c.in_ok-begin.ensures.first at c.in_ok-send_findings.ensures.gathers) tail)
 
 pub returns-clause-reads_back : goal.returns-clause-reads_back
 returns-clause-reads_back g c =
-    on_ok_weaker c.end_file.result (λ plain.
-    check_is_read c.args.file.now c.args.found.now c.args.status c.in_ok-begin.ensures.plain c.in_ok-send_findings.ensures.plain (rw c.fault.ensures at plain) (search rules)) c.end_file.ensures.plain
+    on_ok_weaker c.end_file.result (λ tail. check_is_read c.args.file.now c.args.found.now c.args.status c.in_ok-begin.ensures.printed c.in_ok-send_findings.ensures.plain (rw c.fault.ensures at tail)) c.end_file.ensures.printed

@@ -1,4 +1,5 @@
+use Rattle.krb_json.proofs.ForAnswers.{file_finding_flat}
 use Rattle.krb_json.proofs.check.send_if.Goals as goal
 
 pub returns : goal.returns
-returns g c = rw c.if-not-holds.false (c.send.ensures _ _ c.in_ok-file_finding.ensures.tokens c.requires.empty c.in_ok-file_finding.ensures.plain)
+returns g c = rw c.if-not-holds.false (c.send.ensures _ _ c.in_ok-file_finding.ensures c.requires.empty (file_finding_flat c.args.finding))

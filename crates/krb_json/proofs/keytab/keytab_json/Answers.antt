@@ -23,4 +23,5 @@ returns-clause-prints g c =
 pub returns-clause-reads_back : goal.returns-clause-reads_back
 returns-clause-reads_back g c =
     let k = c.args.keytab.now.state in
-    on_ok_weaker c.end_file.result (λ plain. keytab_is_read c.args.file.now c.args.shows_keys k c.in_ok-send_entries.ensures.plain (rw c.fault.ensures at plain)) c.end_file.ensures.plain
+    let head = rw c.format.ensures at c.in_ok-begin.ensures.printed in
+    on_ok_weaker c.end_file.result (λ tail. keytab_is_read c.args.file.now c.args.shows_keys k head c.in_ok-send_entries.ensures.plain (rw c.fault.ensures at tail)) c.end_file.ensures.printed

@@ -1,4 +1,4 @@
-use Rattle.krb_json.proofs.ForAnswers.{rules, err_from_is_err_and, on_ok_weaker, gathers_prints, gathers_fails, prints_memory, match_is_read, match_text}
+use Rattle.krb_json.proofs.ForAnswers.{err_from_is_err_and, on_ok_weaker, gathers_prints, gathers_fails, prints_memory, match_is_read, match_text}
 use Rattle.krb_json.proofs.matches.match_json.Goals as goal
 
 pub returns-in_err-elements-clause-prints : goal.returns-in_err-elements-clause-prints
@@ -24,4 +24,4 @@ returns-clause-prints g c =
 
 pub returns-clause-reads_back : goal.returns-clause-reads_back
 returns-clause-reads_back g c =
-    on_ok_weaker c.end_file.result (λ plain. match_is_read c.args.keytab.now c.args.file.now c.args.tickets.now c.args.fault c.args.status c.in_ok-send_tickets.ensures.plain plain (search rules)) c.end_file.ensures.plain
+    on_ok_weaker c.end_file.result (match_is_read c.args.keytab.now c.args.file.now c.args.tickets.now c.args.fault c.args.status c.in_ok-begin.ensures.printed c.in_ok-send_tickets.ensures.plain) c.end_file.ensures.printed

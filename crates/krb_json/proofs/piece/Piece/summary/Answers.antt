@@ -1,10 +1,11 @@
-use Rattle.krb_json.proofs.ForAnswers.{rules, codes, ◌∷◌, [], on_ok_weaker, begin_object, end_object, key, string, boolean, number_of, text_member, name_text, member_tokens, chain, summary_is_read}
+use Rattle.krb_json.proofs.ForAnswers.{codes, ◌∷◌, [], on_ok_weaker, begin_object, end_object, key, string, boolean, number_of, text_member, name_text, member_tokens}
+use Rattle.krb_json.proofs.Chains.{chain}
 use Rattle.krb_json.specs.Summary.{number_or_null, summary_value}
 use Rattle.krb_json.proofs.piece.Piece.summary.Goals as goal
 
-pub returns-clause-tokens : goal.returns-clause-tokens
+pub returns : goal.returns
 unfolding summary_value
-returns-clause-tokens g c =
+returns g c =
     let s = c.args.summary in
     on_ok_weaker c.end_object.result (λ last.
     chain _ _ _ (begin_object ∷ []) _ c.in_ok-begin_object.ensures
@@ -12,9 +13,5 @@ returns-clause-tokens g c =
     (chain _ _ _ (key (codes "kind") ∷ string (codes "ccache") ∷ []) _ c.in_ok-string-2.ensures
     (chain _ _ _ (member_tokens (text_member (codes "default_principal") (name_text (g.N.Name.parts c.args.principal.now)))) _ c.in_ok-name.ensures
     (chain _ _ _ (member_tokens (codes "tickets", number_of s.tickets)) _ c.in_ok-number.ensures
-    (chain _ _ _ (member_tokens (codes "endtime", number_or_null s.endtime)) _ c.in_ok-endtime.ensures.tokens
+    (chain _ _ _ (member_tokens (codes "endtime", number_or_null s.endtime)) _ c.in_ok-endtime.ensures
     (chain _ _ _ (key (codes "expired") ∷ boolean s.is_expired ∷ []) (end_object ∷ []) c.in_ok-boolean.ensures last))))))) c.end_object.ensures
-
-pub returns-clause-reads_back : goal.returns-clause-reads_back
-returns-clause-reads_back g c =
-    on_ok_weaker c.end_object.result (λ _. summary_is_read c.args.file.now (g.N.Name.parts c.args.principal.now) c.args.summary (search rules) c.in_ok-endtime.ensures.numbers) c.end_object.ensures
