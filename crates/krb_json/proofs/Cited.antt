@@ -12,7 +12,7 @@ pub use Rattle.std.specs.Prelude.{IsFalse, ltb, filter, ⊤, slice_index_or}
 pub use Rattle.std.specs.Str.{is_utf8, bytes_eq}
 pub use Rattle.krb_json.specs.Cache.{own_server_member, offset_value, integer_or_null, name_of_etype, config_values, ticket_values, shown_values, about_member, cache_json_text, shown_by}
 pub use Rattle.krb_json.specs.Check.{mode_value, finding_value, missing_value, entry_finding, entry_findings, finding_values, check_json_text}
-pub use Rattle.krb_json.specs.Escaped.{text_of, is_special, is_pair, json_text, escape, is_second, held, single}
+pub use Rattle.krb_json.specs.Escaped.{text_of, is_special, is_pair, json_text, escape, is_second, single}
 pub use Rattle.krb_json.specs.Keytab.{entry_values, keytab_json_text}
 pub use Rattle.krb_json.specs.Members.{number_of, Member, object_of, members_of, text_or_null, fault_value, array_of, digits_of, status_members}
 pub use Rattle.krb_json.specs.Pieces.{elements_text, ArePlain, member_tokens, head_tokens, between_tokens, element_text, tokens_of, tail_tokens, arrays_text, Adds, AddsAfter, Begins}

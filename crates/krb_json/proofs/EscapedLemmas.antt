@@ -1,5 +1,5 @@
 -- Escaped texts: byte by byte, and token by token.
-use Rattle.krb_json.proofs.Cited.{◌≡◌, ℕ, Bool, true, false, List, [], ◌∷◌, ◌++◌, length, take, fold, ◌≤◌, refl, sym, ap, subst, ◌∙◌, append_assoc, append-nil, list_any, and_right, false≢true, ne_eqb, or_parts, Token, begin_object, end_object, begin_array, end_array, key, escape, escaped, held, is_pair, is_second, is_special, single, take_all}
+use Rattle.krb_json.proofs.Cited.{◌≡◌, ℕ, Bool, true, false, List, [], ◌∷◌, ◌++◌, length, arith, fold, refl, sym, ap, ◌∙◌, append_assoc, append-nil, list_any, and_right, or_parts, Token, begin_object, end_object, begin_array, end_array, key, escape, escaped, is_pair, is_second, is_special, single}
 use Rattle.std.specs.Prelude.{◌==◌, if◌then◌else◌}
 use Rattle.json.specs.Print.{print_from, quoted, ends, separator, token_text}
 
@@ -24,6 +24,10 @@ pub escaped-pair : (b : ℕ) (rest : List ℕ) → is_second b ≡ true → esca
 unfolding escaped
 escaped-pair b rest second = rw second refl
 
+pub escaped-nil : escaped [] ≡ []
+unfolding escaped
+escaped-nil = refl
+
 -- before a byte that ends no pair a text may be cut
 pub escaped-cut : (text : List ℕ) (b : ℕ) (rest : List ℕ) → is_second b ≡ false → escaped (text ++ b ∷ rest) ≡ escaped text ++ escaped (b ∷ rest)
 unfolding escaped
@@ -47,37 +51,27 @@ escaped-none (b ∷ text) none =
 
 -- ---- bytes that were added
 
--- a text after an old one, and a rest
-joined : (old new text more rest : List ℕ) → new ≡ old ++ text → text ++ more ≡ rest → new ++ more ≡ old ++ rest
-joined old new text more rest e same = ap (λ l. l ++ more) e ∙ append_assoc old text more ∙ ap (λ l. old ++ l) same
-
--- an escaped 7f
-pub added-delete : (b : ℕ) (old new rest : List ℕ) → b ≡ 127 → new ≡ old ++ escape b → new ++ escaped rest ≡ old ++ escaped (b ∷ rest)
-added-delete b old new rest is e =
-    subst (λ x. new ≡ old ++ escape x → new ++ escaped rest ≡ old ++ escaped (x ∷ rest)) (sym is) (λ f. joined old new (escape 127) _ _ f (sym (escaped-single 127 rest refl))) e
-
--- a byte as it is
-pub added-plain : (b : ℕ) (old new rest : List ℕ) → (b ≡ 127 → ⊥) → (b ≡ 194 → ⊥) → new ≡ old ++ b ∷ [] → new ++ escaped rest ≡ old ++ escaped (b ∷ rest)
-added-plain b old new rest delete first e = joined old new (b ∷ []) _ _ e (sym (escaped-plain b rest (ne_eqb b 127 delete) (ne_eqb b 194 first)))
-
--- a c2 that begins no pair
-pub added-first : (b : ℕ) (old new rest : List ℕ) → is_second b ≡ false → new ≡ old ++ 194 ∷ [] → new ++ escaped (b ∷ rest) ≡ old ++ escaped (194 ∷ b ∷ rest)
-added-first b old new rest other e = joined old new (194 ∷ []) _ _ e (sym (escaped-first b rest other))
-
 -- an escaped pair
-pub added-pair : (b : ℕ) (old new rest : List ℕ) → is_second b ≡ true → new ≡ old ++ escape b → new ++ escaped rest ≡ old ++ escaped (194 ∷ b ∷ rest)
-added-pair b old new rest second e = joined old new (escape b) _ _ e (sym (escaped-pair b rest second))
-
--- at the end of a text, with or without a c2 that is held back
-pub ended-holding : (old out text : List ℕ) (holds : Bool) (i : ℕ) → holds ≡ true → length text ≤ i → ((rest : List ℕ) → out ++ escaped (held holds ++ rest) ≡ old ++ escaped (take i text ++ rest)) → out ++ 194 ∷ [] ≡ old ++ escaped text
+pub added_pair : (a b : ℕ) (after rest old new : List ℕ) → after ≡ b ∷ rest → true ≡ is_pair a b → new ≡ old ++ escape b → new ++ escaped rest ≡ old ++ escaped (a ∷ after)
 unfolding escaped
-ended-holding old out text true i is le h = h [] ∙ ap (λ t. old ++ escaped t) (append-nil (take i text) ∙ take_all i text le)
-ended-holding old out text false i is le h = absurd (false≢true is)
+added_pair a b after rest old new e pair is = rw (is, e, ← pair) (append_assoc old (escape b) (escaped rest))
 
-pub ended : (old out text : List ℕ) (holds : Bool) (i : ℕ) → holds ≡ false → length text ≤ i → ((rest : List ℕ) → out ++ escaped (held holds ++ rest) ≡ old ++ escaped (take i text ++ rest)) → out ≡ old ++ escaped text
+-- a byte that begins no pair
+pub added_single : (a b : ℕ) (after rest old new : List ℕ) → after ≡ b ∷ rest → false ≡ is_pair a b → new ≡ old ++ single a → new ++ escaped after ≡ old ++ escaped (a ∷ after)
 unfolding escaped
-ended old out text false i is le h = sym (append-nil out) ∙ h [] ∙ ap (λ t. old ++ escaped t) (append-nil (take i text) ∙ take_all i text le)
-ended old out text true i is le h = absurd (false≢true (sym is))
+added_single a b after rest old new e none is = rw (is, e, ← none) (append_assoc old (single a) (escaped (b ∷ rest)))
+
+-- the last byte
+pub added_last : (a : ℕ) (after old new : List ℕ) → length after ≡ 0 → new ≡ old ++ single a → new ++ escaped after ≡ old ++ escaped (a ∷ after)
+unfolding escaped
+added_last a [] old new none is = append-nil new ∙ is
+added_last a (b ∷ after) old new none is = absurd (omega arith)
+
+-- no rest is left
+pub added_all : (rest out whole : List ℕ) → length rest ≡ 0 → out ++ escaped rest ≡ whole → out ≡ whole
+unfolding escaped
+added_all [] out whole none e = sym (append-nil out) ∙ e
+added_all (b ∷ rest) out whole none e = absurd (omega arith)
 
 -- ---- tokens
 

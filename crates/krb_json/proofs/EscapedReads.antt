@@ -6,7 +6,7 @@ use Rattle.json.specs.Lex.{Lexeme, lex, between, token, comma, colon, string_tok
 use Rattle.json.specs.Print.{print_from, escape as json_escape, quoted, token_text, begins, ends, IsPrintable, ArePrintable}
 use Rattle.json.proofs.Printed.Numbers.{in_word-ended, lex-number}
 use Rattle.json.proofs.Printed.Trees.{ArePrintable-json_tokens, document-print}
-use Rattle.krb_json.proofs.EscapedLemmas.{escaped-cut, escaped-none, escaped-plain, text_from, text_from-next}
+use Rattle.krb_json.proofs.EscapedLemmas.{escaped-cut, escaped-nil, escaped-none, escaped-plain, text_from, text_from-next}
 use Rattle.krb_json.proofs.EscapedNumbers.{number_has_none}
 use Rattle.krb_json.proofs.EscapedStrings.{is_read}
 
@@ -74,10 +74,6 @@ unfolding print_from
 print_ends [] = refl
 print_ends (null ∷ ts) = refl
 print_ends (_ ∷ ts) = refl
-
-escaped-nil : escaped [] ≡ []
-unfolding escaped
-escaped-nil = refl
 
 text_ends : (ts : List Token) → ends_word (text_from true ts) ≡ true
 unfolding print_from

@@ -38,10 +38,6 @@ json_text v = text_of (json_tokens v)
 
 -- ---- for private contracts
 
--- what is held back
-abbrev pub held : Bool → List ℕ
-held holds = if holds then 194 ∷ [] else []
-
 -- a byte that may have to be escaped
 abbrev pub is_special : ℕ → Bool
 is_special b = (b == 127) || (b == 194)

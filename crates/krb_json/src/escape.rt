@@ -1,8 +1,8 @@
 //! Escapes the control characters that JSON allows as they are: 7f, and U+0080 to U+009F.
 
-ghost use Rattle.std.specs.Prelude.{◌≡◌, ℕ, List, ◌∷◌, ◌++◌, IfOk, OnOk};
+ghost use Rattle.std.specs.Prelude.{◌≡◌, ◌≤◌, ◌∷◌, ◌++◌, length, IfOk, OnOk};
 ghost use Rattle.std.specs.List.{list_any};
-ghost use Rattle.krb_json.specs.Escaped.{escape, escaped, held, is_second, is_special};
+ghost use Rattle.krb_json.specs.Escaped.{escape, escaped, is_pair, is_special, single};
 
 use krb_wire::NoMemory;
 use memchr::memchr2;
@@ -13,11 +13,11 @@ const FIRST: u8 = 0xc2;
 
 const DELETE: u8 = 0x7f;
 
-// Returns whether it can be the second of them.
-fn is_second(byte: u8) -> bool
-    ensures { result ≡ is_second byte }
+// Returns whether two bytes are one of these characters.
+fn is_pair(first: u8, second: u8) -> bool
+    ensures { result ≡ is_pair first second }
 {
-    0x80 <= byte && byte <= 0x9f
+    first == FIRST && 0x80 <= second && second <= 0x9f
 }
 
 // Adds the escape of a character.
@@ -29,57 +29,45 @@ fn add_escape<A: Allocator>(character: u8, out: &mut Vec<u8, A>) -> Result<(), N
     Ok(out.extend_from_slice(&shown)?)
 }
 
-// Adds a byte before which none is held back. Returns whether it is held back.
-fn add_single<A: Allocator>(byte: u8, out: &mut Vec<u8, A>) -> Result<bool, NoMemory>
-    ensures { (rest : List ℕ) → IfOk result (λ holds. out.new.items ++ escaped (held holds ++ rest)
-        ≡ out.old.items ++ escaped (byte ∷ rest)) }
+// Adds a byte of any other character.
+fn add_single<A: Allocator>(byte: u8, out: &mut Vec<u8, A>) -> Result<(), NoMemory>
+    ensures { OnOk result (out.new.items ≡ out.old.items ++ single byte) }
 {
-    if byte == FIRST {
-        return Ok(true);
-    }
     if byte == DELETE {
-        add_escape(byte, out)?;
-    } else {
-        out.push(byte)?;
+        return add_escape(byte, out);
     }
-    Ok(false)
+    Ok(out.push(byte)?)
 }
 
-// Adds a byte after the one that is held back. Returns whether one is held back now.
-fn add_second<A: Allocator>(byte: u8, out: &mut Vec<u8, A>) -> Result<bool, NoMemory>
-    ensures { (rest : List ℕ) → IfOk result (λ holds. out.new.items ++ escaped (held holds ++ rest)
-        ≡ out.old.items ++ escaped (194 ∷ byte ∷ rest)) }
+// Adds the first byte of a text, or the first two if they are one of these characters. Returns the rest.
+#[tactic(auto, using(crate::proofs::EscapedLemmas::added_pair, crate::proofs::EscapedLemmas::added_last))]
+fn add_next<'t, A: Allocator>(
+    first: u8,
+    after: &'t [u8],
+    out: &mut Vec<u8, A>,
+) -> Result<&'t [u8], NoMemory>
+    ensures less { IfOk result (λ rest. length rest.now ≤ length after.now) }
+    ensures text { IfOk result (λ rest. out.new.items ++ escaped rest.now ≡ out.old.items ++ escaped (first ∷ after.now)) }
 {
-    if is_second(byte) {
-        add_escape(byte, out)?;
-        return Ok(false);
+    let Some((second, rest)) = after.split_first() else {
+        add_single(first, out)?;
+        return Ok(after);
+    };
+    if is_pair(first, *second) {
+        add_escape(*second, out)?;
+        return Ok(rest);
     }
-    out.push(FIRST)?;
-    add_single(byte, out)
-}
-
-// Adds a byte, after one that may be held back. Returns whether one is held back now.
-fn add<A: Allocator>(byte: u8, holds: bool, out: &mut Vec<u8, A>) -> Result<bool, NoMemory>
-    ensures { (rest : List ℕ) → IfOk result (λ holding. out.new.items ++ escaped (held holding ++ rest)
-        ≡ out.old.items ++ escaped (held holds ++ byte ∷ rest)) }
-{
-    if holds {
-        add_second(byte, out)
-    } else {
-        add_single(byte, out)
-    }
+    add_single(first, out)?;
+    Ok(after)
 }
 
 // Appends a text, escaped.
 fn append_slowly<A: Allocator>(text: &[u8], out: &mut Vec<u8, A>) -> Result<(), NoMemory>
     ensures { OnOk result (out.new.items ≡ out.old.items ++ escaped text.now) }
 {
-    let mut holds = false;
-    'bytes: for byte in text {
-        holds = add(*byte, holds, out)?;
-    }
-    if holds {
-        out.push(FIRST)?;
+    let mut rest = text;
+    'bytes: while let Some((first, after)) = rest.split_first() {
+        rest = add_next(*first, after, out)?;
     }
     Ok(())
 }

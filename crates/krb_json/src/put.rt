@@ -27,37 +27,21 @@ pub enum Label {
 }
 
 impl Label {
-    /// Returns the member's name if the string is UTF-8.
-    pub fn name(self) -> &'static str
-        ensures { result.now ≡ label_text self }
+    /// Returns the member's name if the string is UTF-8, and if it is not.
+    pub fn names(self) -> (&'static str, &'static str)
+        ensures text { result.0.now ≡ label_text self }
+        ensures hex { result.1.now ≡ label_text self ++ codes "_hex" }
     {
         match self {
-            Label::Principal => "principal",
-            Label::DefaultPrincipal => "default_principal",
-            Label::Client => "client",
-            Label::Server => "server",
-            Label::TicketServer => "ticket_server",
-            Label::Key => "key",
-            Label::Value => "value",
-            Label::Error => "error",
-            Label::Name => "name",
-        }
-    }
-
-    /// Returns the member's name if the string is not UTF-8.
-    pub fn hex_name(self) -> &'static str
-        ensures { result.now ≡ label_text self ++ codes "_hex" }
-    {
-        match self {
-            Label::Principal => "principal_hex",
-            Label::DefaultPrincipal => "default_principal_hex",
-            Label::Client => "client_hex",
-            Label::Server => "server_hex",
-            Label::TicketServer => "ticket_server_hex",
-            Label::Key => "key_hex",
-            Label::Value => "value_hex",
-            Label::Error => "error_hex",
-            Label::Name => "name_hex",
+            Label::Principal => ("principal", "principal_hex"),
+            Label::DefaultPrincipal => ("default_principal", "default_principal_hex"),
+            Label::Client => ("client", "client_hex"),
+            Label::Server => ("server", "server_hex"),
+            Label::TicketServer => ("ticket_server", "ticket_server_hex"),
+            Label::Key => ("key", "key_hex"),
+            Label::Value => ("value", "value_hex"),
+            Label::Error => ("error", "error_hex"),
+            Label::Name => ("name", "name_hex"),
         }
     }
 }
@@ -119,9 +103,10 @@ pub fn put_text<A: Allocator>(
     ensures tokens { OnOk result (writer.new.tokens
         ≡ writer.old.tokens ++ member_tokens (text_member (label_text label) bytes.now)) }
 {
+    let (name, hex_name) = label.names();
     let Some(text) = text_in(bytes) else {
-        return put_digits(label.hex_name(), bytes, digits, writer);
+        return put_digits(hex_name, bytes, digits, writer);
     };
-    writer.key(label.name())?;
+    writer.key(name)?;
     Ok(writer.string(text)?)
 }

@@ -1,8 +1,9 @@
-use Rattle.krb_json.proofs.Cited.{◌≡◌, ℕ, List, ◌++◌, take, escaped, held}
+use Rattle.krb_json.proofs.Cited.{◌≡◌, ◌++◌, length, escaped}
 use Rattle.krb_json.proofs.escape.append_slowly.Given as goal
 
--- whatever comes after the bytes so far, what is out and what is held back make the text of them
+-- what is out and the rest make the text
 abbrev pub invariant-bytes : goal.invariant-bytes
-invariant-bytes g l = record {
-  items : (rest : List ℕ) → l.out.items ++ escaped (held l.holds ++ rest) ≡ l.fn.out.items ++ escaped (take l.byte-index l.text ++ rest);
-}
+invariant-bytes g l = l.out.items ++ escaped l.rest ≡ l.fn.out.items ++ escaped l.text
+
+abbrev pub decreases-bytes : goal.decreases-bytes
+decreases-bytes g l = length l.rest
