@@ -20,7 +20,7 @@ pub use Rattle.krb_json.specs.declared.elements.Elements.{Elements}
 pub use Rattle.json.specs.Json.{Json, document, if_last, max_depth, value}
 pub use Rattle.json.specs.Token.{key, begin_object, string, Token, begin_array, end_object, end_array, null, boolean, number, bad}
 pub use Rattle.json.specs.Tree.{json_tokens, depth, HasNumbers, members_tokens, members_depth, items_depth, items_tokens}
-pub use Rattle.krb_ccache.specs.Config.{config_parts, config_name, ConfigParts}
+pub use Rattle.krb_ccache.specs.Config.{config_name, ConfigParts}
 pub use Rattle.krb_ccache.specs.Store.{placed_credentials, CacheState, PlacedCredential, version_byte}
 pub use Rattle.krb_text.proofs.Passing.{gathers_memory, gathers_prints, passed_none, gathers_fails, passed_fail, passed_last}
 pub use Rattle.krb_text.specs.Gathered.{Passed, Prints, Gathers}

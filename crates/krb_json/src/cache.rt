@@ -28,6 +28,7 @@ fn version_number(version: Version) -> u64
 }
 
 // Gathers the text before the first ticket.
+#[tactic(auto, using(crate::proofs::Chains::head_written, crate::proofs::Chains::one_more_member), unfolding(crate::specs::Cache::cache_members))]
 fn begin<A: Allocator + Copy, B: Allocator>(
     file: &str,
     cache: &Ccache<B>,
@@ -41,7 +42,8 @@ fn begin<A: Allocator + Copy, B: Allocator>(
     piece.begin_file(file, "ccache", version_number(cache.version()))?;
     piece.name(Label::DefaultPrincipal, &cache.default_principal())?;
     piece.offset(cache.offset())?;
-    elements.begin_array("tickets")
+    elements.begin_array("tickets")?;
+    Ok(())
 }
 
 /// Which credentials an array holds.

@@ -17,6 +17,7 @@ use std::alloc::Allocator;
 use std::io::Write;
 
 // Gathers the text before the first finding.
+#[tactic(auto, using(crate::proofs::Chains::head_written))]
 fn begin<A: Allocator + Copy, B: Allocator>(
     file: &str,
     found: &CheckUp<'_, B>,
@@ -29,7 +30,8 @@ fn begin<A: Allocator + Copy, B: Allocator>(
     elements
         .piece
         .begin_check(file, found.mode(), found.counts())?;
-    elements.begin_array("findings")
+    elements.begin_array("findings")?;
+    Ok(())
 }
 
 // Sends a finding about the file, if it holds.

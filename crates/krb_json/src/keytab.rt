@@ -62,6 +62,7 @@ impl<A: Allocator> Piece<A> {
 }
 
 // Gathers the text before the first entry.
+#[tactic(auto, using(crate::proofs::Chains::head_written))]
 fn begin<A: Allocator + Copy>(
     file: &str,
     format: KtFormat,
@@ -74,10 +75,12 @@ fn begin<A: Allocator + Copy>(
     elements
         .piece
         .begin_file(file, "keytab", format.version() as u64)?;
-    elements.begin_array("entries")
+    elements.begin_array("entries")?;
+    Ok(())
 }
 
 // Sends an entry.
+#[tactic(auto, using(crate::proofs::ReadBack::entry_flat))]
 fn send_entry<A: Allocator + Copy, W: Write>(
     place: u32,
     entry: &EntryView<'_>,

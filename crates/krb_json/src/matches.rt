@@ -113,6 +113,7 @@ impl<A: Allocator> Piece<A> {
 }
 
 // Gathers the text before the first ticket.
+#[tactic(auto, using(crate::proofs::Chains::head_written))]
 fn begin<A: Allocator + Copy>(
     keytab: &str,
     file: &str,
@@ -123,7 +124,8 @@ fn begin<A: Allocator + Copy>(
         (head_tokens (match_members keytab.now file.now) (codes "tickets"))) }
 {
     elements.piece.begin_matches(keytab, file)?;
-    elements.begin_array("tickets")
+    elements.begin_array("tickets")?;
+    Ok(())
 }
 
 // Sends a ticket.
