@@ -25,20 +25,20 @@ joined : (old new text more rest : List ℕ) → new ≡ old ++ text → text ++
 joined old new text more rest e same = ap (λ (l : List ℕ). l ++ more) e ∙ append_assoc old text more ∙ ap (λ (l : List ℕ). old ++ l) same
 
 -- a control byte was added
-pub added-control : (b : ℕ) (old new rest : List ℕ) → (b ≡ 194 → ⊥) → is_control b ≡ true → new ≡ old ++ escape b → new ++ escaped rest ≡ old ++ escaped (b ∷ rest)
-added-control b old new rest other control e = joined old new (escape b) _ _ e (sym (escaped-single b rest (ne_eqb b 194 other) ∙ rw control refl))
+pub added_control : (b : ℕ) (old new rest : List ℕ) → (b ≡ 194 → ⊥) → true ≡ is_control b → new ≡ old ++ escape b → new ++ escaped rest ≡ old ++ escaped (b ∷ rest)
+added_control b old new rest other control e = joined old new (escape b) _ _ e (sym (escaped-single b rest (ne_eqb b 194 other) ∙ rw (← control) refl))
 
 -- another byte was added
-pub added-plain : (b : ℕ) (old new rest : List ℕ) → (b ≡ 194 → ⊥) → is_control b ≡ false → new ≡ old ++ b ∷ [] → new ++ escaped rest ≡ old ++ escaped (b ∷ rest)
-added-plain b old new rest other plain e = joined old new (b ∷ []) _ _ e (sym (escaped-single b rest (ne_eqb b 194 other) ∙ rw plain refl))
+pub added_plain : (b : ℕ) (old new rest : List ℕ) → (b ≡ 194 → ⊥) → false ≡ is_control b → new ≡ old ++ b ∷ [] → new ++ escaped rest ≡ old ++ escaped (b ∷ rest)
+added_plain b old new rest other plain e = joined old new (b ∷ []) _ _ e (sym (escaped-single b rest (ne_eqb b 194 other) ∙ rw (← plain) refl))
 
 -- a c2 was added that begins no pair
-pub added-first : (b : ℕ) (old new rest : List ℕ) → is_second b ≡ false → new ≡ old ++ 194 ∷ [] → new ++ escaped (b ∷ rest) ≡ old ++ escaped (194 ∷ b ∷ rest)
-added-first b old new rest other e = joined old new (194 ∷ []) _ _ e (sym (escaped-first b rest other))
+pub added_first : (b : ℕ) (old new rest : List ℕ) → is_second b ≡ false → new ≡ old ++ 194 ∷ [] → new ++ escaped (b ∷ rest) ≡ old ++ escaped (194 ∷ b ∷ rest)
+added_first b old new rest other e = joined old new (194 ∷ []) _ _ e (sym (escaped-first b rest other))
 
 -- both bytes of a pair were added
-pub added-pair : (b : ℕ) (old mid new rest : List ℕ) → is_second b ≡ true → mid ≡ old ++ escape 194 → new ≡ mid ++ escape b → new ++ escaped rest ≡ old ++ escaped (194 ∷ b ∷ rest)
-added-pair b old mid new rest second first e =
+pub added_pair : (b : ℕ) (old mid new rest : List ℕ) → is_second b ≡ true → mid ≡ old ++ escape 194 → new ≡ mid ++ escape b → new ++ escaped rest ≡ old ++ escaped (194 ∷ b ∷ rest)
+added_pair b old mid new rest second first e =
     let both : new ≡ old ++ cut_text (194 ∷ b ∷ []) = e ∙ ap (λ (l : List ℕ). l ++ escape b) first ∙ append_assoc old (escape 194) (escape b)
     ∙ ap (λ (l : List ℕ). old ++ (escape 194 ++ l)) (sym (append-nil (escape b))) in
     joined old new (cut_text (194 ∷ b ∷ [])) _ _ both (sym (escaped-pair b rest second))

@@ -44,6 +44,7 @@ fn add_escape(byte: u8, text: &mut Text)
 }
 
 // Adds a byte before which none is held back. Returns whether it is held back.
+#[tactic(auto, using(crate::proofs::Cuts::added_control, crate::proofs::Cuts::added_plain))]
 fn add_single(byte: u8, text: &mut Text) -> bool
     requires { array_vec_len text.old + 4 ≤ 17412 }
     ensures items { (rest : List ℕ) → text.new.items ++ escaped (held result ++ rest) ≡ text.old.items ++ escaped (byte ∷ rest) }
