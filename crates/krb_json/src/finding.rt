@@ -35,9 +35,7 @@ impl<A: Allocator> Piece<A> {
         self.number("free", counts.free as u64)?;
         self.number("holes", counts.holes as u64)
     }
-}
 
-impl<A: Allocator> Piece<A> {
     // Begins the object of a finding, and writes its word.
     fn begin_finding(&mut self, finding: Finding) -> Result<(), NoMemory>
         ensures { OnOk result (self.new
