@@ -1,5 +1,6 @@
 -- Texts that are gathered and sent, one after the other.
 use Rattle.krb_json.proofs.Cited.{◌≡◌, ℕ, List, [], ◌++◌, Option, Result, Ok, Err, refl, sym, ap, ◌∙◌, append_assoc, append-nil, IsFalse, on_ok_weaker, on_err_weaker, Passed, Gathers, Prints, passed_last, passed_fail, gathers_memory, OutFault, Watch}
+use Rattle.std.specs.Result.{IsErrAnd}
 use Rattle.krb_files.specs.declared.output.OutFault.TheVariants.{NoMemory}
 use Rattle.krb_files.proofs.Prefixes.{Appends-trans, AppendsPrefix-longer, AppendsPrefix-none}
 
@@ -32,5 +33,6 @@ gathers_then_memory {T} o p b x y c d v e h is =
     gathers_two_fails {T = T} o p b x y c d e (gathers_memory o p b c x [] c e h.ok h.failed is)
 
 -- nothing was printed, because an allocation failed
-pub prints_memory : {T : Type 0} (o : Watch) (text : List ℕ) (e : OutFault) → IsFalse o.failed → e ≡ NoMemory → Prints {T = T} o o (Err e) text
-prints_memory o text e well is = record { ok = tt; prefix = AppendsPrefix-none o.contents text; failed = rw is well }
+pub prints_memory : {T : Type 0} (o : Watch) (text : List ℕ) (r : Result T OutFault) → IsFalse o.failed → IsErrAnd r (λ e. e ≡ NoMemory) → Prints o o r text
+prints_memory o text (Ok v) well is = absurd is
+prints_memory o text (Err e) well is = record { ok = tt; prefix = AppendsPrefix-none o.contents text; failed = rw is well }

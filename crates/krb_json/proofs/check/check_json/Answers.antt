@@ -2,9 +2,7 @@ use Rattle.krb_json.proofs.ForAnswers.{err_from_is_err_and, on_ok_weaker, gather
 use Rattle.krb_json.proofs.check.check_json.Goals as goal
 
 pub returns-in_err-begin-clause-prints : goal.returns-in_err-begin-clause-prints
-returns-in_err-begin-clause-prints g c =
-    let p = err_from_is_err_and c.from_residual-in_err-begin.result c.from_residual-in_err-begin.ensures.1 in
-    rw p.1 (prints_memory _ _ p.0 c.requires p.2)
+returns-in_err-begin-clause-prints g c = prints_memory _ _ _ c.requires c.from_residual-in_err-begin.ensures.1
 
 pub returns-in_err-send_findings-clause-prints : goal.returns-in_err-send_findings-clause-prints
 returns-in_err-send_findings-clause-prints g c =
