@@ -1,6 +1,5 @@
 -- The names that the proofs cite most, passed on from one place. Declares nothing.
-pub use Rattle.std.proofs.Common.{◌≡◌, drop, ◌++◌, map, string_bytes, take, length, ◌-◌, false, true, List, ℕ, Option, None, Some, Bor, refl, ap, ◌∙◌, arith}
-pub use Rattle.std.specs.Prelude.{fold, MatchOption, option_copied}
-pub use Rattle.krb_command_line.specs.Words.{double_equals, doubled_words, mistake_after, mistake_behind, bundled_value, value_in, without_end, long_names}
+pub use Rattle.std.proofs.Common.{◌≡◌, drop, ◌++◌, map, string_bytes, take, length}
+pub use Rattle.krb_command_line.specs.Words.{double_equals, doubled_words, mistake_after, mistake_behind, bundled_value, value_in, long_names}
 pub use denote.Shadow.{shadow}
 pub use denote.Text.{Utf8}

@@ -1,6 +1,6 @@
 -- The words of a command line, and the options and operands of a command.
-use Rattle.std.specs.Prelude.{ℕ, ◌+◌, ◌-◌, ◌==◌, List, [], ◌∷◌, ◌++◌, codes, drop, encode_utf8, encode_utf8_all, filter, length, map, nat_eq, nat_lt, take, not, ◌&&◌, Bool, true, false, if◌then◌else◌, bytes_eq, is_some, Option, None, Some, ok_or, option_and_then, option_map, unwrap_or, Result, Ok, Err, String, string_bytes}
-use Rattle.std.specs.List.{before_first, ends_with, find, list_any, position_or_len, starts_with}
+use Rattle.std.specs.Prelude.{ℕ, ◌+◌, ◌==◌, List, [], ◌∷◌, ◌++◌, codes, drop, encode_utf8, encode_utf8_all, filter, length, map, nat_eq, nat_lt, not, ◌&&◌, Bool, true, false, if◌then◌else◌, bytes_eq, is_some, Option, None, Some, ok_or, option_and_then, option_map, unwrap_or, Result, Ok, Err, String, string_bytes}
+use Rattle.std.specs.List.{before_first, find, list_any, position_or_len, starts_with}
 use Rattle.std.specs.Option.{option_flatten, option_map_or}
 use Rattle.std.specs.Result.{result_map_both, result_ok}
 use Rattle.std.specs.Str.{chars}
@@ -169,13 +169,9 @@ long_names (word ∷ words) = if bytes_eq (string_bytes word) (codes "--") then 
 
 -- ---- values that begin with `=`
 
--- a word without that end
-abbrev pub without_end : List ℕ → List ℕ → Option (List ℕ)
-without_end word end = if ends_with nat_eq word end then Some (take (length word - length end) word) else None
-
--- a bundle with one more `=` before its value, if that begins with one
+-- a bundle with one more `=` before its value, if that begins with one: no letter before it is an `=`
 abbrev pub doubled : List Arg → List ℕ → Option (List ℕ)
-doubled options word = option_and_then (λ value. if starts_with nat_eq value (codes "=") then option_map (λ front. front ++ (61 ∷ value)) (without_end word value) else None) (option_flatten (result_ok (bundled_value options word)))
+doubled options word = option_and_then (λ value. if starts_with nat_eq value (codes "=") then Some (before_first is_equals word ++ (61 ∷ value)) else None) (option_flatten (result_ok (bundled_value options word)))
 
 -- the words of a command, each such bundle before a first `--` with one more `=`
 abbrev pub doubled_words : List Arg → List (List ℕ) → List (List ℕ)

@@ -2,7 +2,7 @@
 
 ghost use Rattle.std.specs.Prelude.{◌≡◌, option_copied, option_map};
 ghost use Rattle.krb_driver.specs.Mistakes.{mistake_parts};
-ghost use Rattle.krb_command_line.specs.Words.{command_name, command_named, command_of, is_named, is_option, mistake_of_help, mistake_of_words, no_command, words_behind};
+ghost use Rattle.krb_command_line.specs.Words.{command_name, command_named, command_of, is_option, mistake_of_help, mistake_of_words, no_command, words_behind};
 
 use crate::place::mistake_behind;
 use clap::Command;
@@ -28,12 +28,6 @@ fn no_command(word: &str) -> Mistake<'_>
     }
 }
 
-fn is_named(command: &Command<'_>, name: &str) -> bool
-    ensures { result ≡ is_named name.now command.now }
-{
-    command.get_name() == name
-}
-
 // Returns the command of that name.
 fn command_named<'k, 'a>(krbfile: &'k Command<'a>, name: &str) -> Option<&'k Command<'a>>
     ensures { option_copied result ≡ command_named krbfile.now name.now }
@@ -41,7 +35,7 @@ fn command_named<'k, 'a>(krbfile: &'k Command<'a>, name: &str) -> Option<&'k Com
     krbfile
         .get_subcommands()
         .iter()
-        .find(|command| is_named(command, name))
+        .find(|command| command.get_name() == name)
 }
 
 /// Returns the command that words name first.

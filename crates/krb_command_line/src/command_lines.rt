@@ -14,47 +14,41 @@ fn operands<'a>(alloc: Global, name: &'static str, help: &'static str) -> Arg<'a
         .help(help)
 }
 
+fn flag<'a>(alloc: Global, name: &'static str, help: &'static str) -> Arg<'a> {
+    let flag = Arg::new(alloc, name).long(name).help(help);
+    flag.action(ArgAction::SetTrue)
+}
+
+fn valued<'a>(
+    alloc: Global,
+    name: &'static str,
+    value: &'static str,
+    help: &'static str,
+) -> Arg<'a> {
+    let option = Arg::new(alloc, name).long(name).help(help);
+    option.value_name(value).action(ArgAction::Append)
+}
+
 fn arg_of<'a>(alloc: Global, word: Word) -> Arg<'a> {
     match word {
-        Word::Flag(name, letter, help) => Arg::new(alloc, name)
-            .short(letter)
-            .long(name)
-            .action(ArgAction::SetTrue)
-            .help(help),
-        Word::LongFlag(name, help) => Arg::new(alloc, name)
-            .long(name)
-            .action(ArgAction::SetTrue)
-            .help(help),
-        Word::Valued(name, letter, value, help) => Arg::new(alloc, name)
-            .short(letter)
-            .long(name)
-            .action(ArgAction::Append)
-            .value_name(value)
-            .help(help),
-        Word::LongValued(name, value, help) => Arg::new(alloc, name)
-            .long(name)
-            .action(ArgAction::Append)
-            .value_name(value)
-            .help(help),
+        Word::Flag(name, letter, help) => flag(alloc, name, help).short(letter),
+        Word::LongFlag(name, help) => flag(alloc, name, help),
+        Word::Valued(name, letter, value, help) => valued(alloc, name, value, help).short(letter),
+        Word::LongValued(name, value, help) => valued(alloc, name, value, help),
         Word::Operand(name, help) => Arg::new(alloc, name).required(true).help(help),
         Word::Operands(name, help) => operands(alloc, name, help),
         Word::RequiredOperands(name, help) => operands(alloc, name, help).required(true),
     }
 }
 
-fn empty_command<'a>(alloc: Global, line: &CommandWords) -> Command<'a> {
-    let command = Command::new(alloc, line.name)
+fn command_of<'a>(alloc: Global, line: &CommandWords) -> Result<Command<'a>, AllocError> {
+    let mut command = Command::new(alloc, line.name)
         .about(line.about)
         .override_usage(line.usage)
         .args_override_self(true);
-    match line.after_help {
-        Some(text) => command.after_help(text),
-        None => command,
+    if let Some(text) = line.after_help {
+        command = command.after_help(text);
     }
-}
-
-fn command_of<'a>(alloc: Global, line: &CommandWords) -> Result<Command<'a>, AllocError> {
-    let mut command = empty_command(alloc, line);
     for word in line.words {
         command = command.arg(arg_of(alloc, *word))?;
     }
@@ -63,8 +57,11 @@ fn command_of<'a>(alloc: Global, line: &CommandWords) -> Result<Command<'a>, All
 
 // Returns the option that shows words, before a command or behind it.
 fn explain<'a>(alloc: Global) -> Arg<'a> {
-    let help = "Explain errors in words, as on a terminal";
-    arg_of(alloc, Word::LongFlag("explain", help))
+    flag(
+        alloc,
+        "explain",
+        "Explain errors in words, as on a terminal",
+    )
 }
 
 // Returns the program's command without subcommands.
@@ -76,19 +73,6 @@ fn top_command<'a>(alloc: Global) -> Result<Command<'a>, AllocError> {
         .arg(explain(alloc))
 }
 
-// Returns whether a word is the name of a command.
-fn is_command(lines: &[CommandWords], word: Option<&str>) -> bool {
-    lines.iter().any(|line| word == Some(line.name))
-}
-
-fn with_line<'a>(
-    alloc: Global,
-    all: Command<'a>,
-    line: &CommandWords,
-) -> Result<Command<'a>, AllocError> {
-    all.subcommand(command_of(alloc, line)?)
-}
-
 /// Returns the command lines of the commands: if the word is a command's name, only that command's, so that a run does
 /// not build the others, and otherwise all.
 pub fn krbfile_command<'a>(
@@ -97,10 +81,10 @@ pub fn krbfile_command<'a>(
     word: Option<&str>,
 ) -> Result<Command<'a>, AllocError> {
     let mut krbfile = top_command(alloc)?;
-    let is_alone = is_command(lines, word);
+    let is_alone = lines.iter().any(|line| word == Some(line.name));
     for line in lines {
         if !is_alone || word == Some(line.name) {
-            krbfile = with_line(alloc, krbfile, line)?;
+            krbfile = krbfile.subcommand(command_of(alloc, line)?)?;
         }
     }
     Ok(krbfile)

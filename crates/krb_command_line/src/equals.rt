@@ -1,30 +1,22 @@
 //! Values of short options that begin with `=`.
 
-ghost use Rattle.std.specs.Prelude.{◌≡◌, IfOk, OnOk, map, option_copied, option_map, string_bytes};
-ghost use Rattle.krb_command_line.specs.Words.{double_equals, doubled, without_end};
+ghost use Rattle.std.specs.Prelude.{◌≡◌, IfOk, OnOk, map, option_map, string_bytes};
+ghost use Rattle.krb_command_line.specs.Words.{double_equals, doubled};
 
 use crate::bad_line::{command_of, words_behind};
 use crate::bundle::bundled_value;
+use crate::options::before_equals;
 use clap::{Arg, Command};
 use std::alloc::{AllocError, Global};
 
-// Returns a word without that end.
-#[tactic(auto, using(crate::proofs::Ends::strips_end))]
-fn without_end<'a>(word: &'a str, end: &str) -> Option<&'a str>
-    ensures { option_copied result ≡ without_end word.now end.now }
-{
-    word.strip_suffix(end)
-}
-
-// Returns a bundle with one more `=` before its value, if that begins with one.
+// Returns a bundle with one more `=` before its value, if that begins with one. No letter before it is an `=`.
 fn doubled(alloc: Global, options: &[Arg<'_>], word: &str) -> Result<Option<String>, AllocError>
     ensures { IfOk result (λ text. option_map string_bytes text ≡ doubled options.now word.now) }
 {
-    let Ok(Some(value)) = bundled_value(options, word) else {
-        return Ok(None);
-    };
-    match without_end(word, value) {
-        Some(front) if value.starts_with('=') => Ok(Some(format!(in alloc; "{front}={value}")?)),
+    match bundled_value(options, word) {
+        Ok(Some(value)) if value.starts_with('=') => {
+            Ok(Some(format!(in alloc; "{}={value}", before_equals(word))?))
+        }
         _ => Ok(None),
     }
 }

@@ -31,27 +31,6 @@ fn nearest<'a>(alloc: Global, word: &str, names: &[&'a str]) -> Result<Option<&'
     Ok(found)
 }
 
-// Returns the names of the commands, `help` among them, as clap adds it.
-fn command_names<'a>(alloc: Global, krbfile: &Command<'a>) -> Result<Vec<&'a str>, AllocError> {
-    let mut names = Vec::new(alloc);
-    for command in krbfile.get_subcommands() {
-        names.push(command.get_name())?;
-    }
-    Ok(names)
-}
-
-// Returns the long names of a command's options, without `--` and but for `--help`.
-fn long_names<'a>(alloc: Global, command: &Command<'a>) -> Result<Vec<&'a str>, AllocError> {
-    let mut names = Vec::new(alloc);
-    for option in command.get_arguments() {
-        match option.get_long() {
-            Some(name) if name != "help" => names.push(name)?,
-            _ => {}
-        }
-    }
-    Ok(names)
-}
-
 // Returns what does here what a command of that name does in another program.
 fn command_elsewhere(word: &str) -> Option<&'static str>
     ensures { option_copied result ≡ lookup (λ name. bytes_eq word.now name) elsewhere }
@@ -78,7 +57,9 @@ pub fn meant_command<'a>(
     if let Some(command) = command_elsewhere(word) {
         return Ok(More::MeantCommand(command));
     }
-    let names = command_names(alloc, krbfile)?;
+    // `help` is among the commands, as clap adds it.
+    let commands = krbfile.get_subcommands().iter();
+    let names: Vec<&'a str> = commands.map(|command| command.get_name()).collect(alloc)?;
     match nearest(alloc, word, &names)? {
         Some(name) => Ok(More::MeantCommand(name)),
         None => Ok(More::Nothing),
@@ -95,7 +76,12 @@ pub fn meant_option<'a>(
     let Some(option) = word.strip_prefix("--") else {
         return Ok(More::Nothing);
     };
-    let (names, option) = (long_names(alloc, command)?, before_equals(option));
+    let option = before_equals(option);
+    let long = command
+        .get_arguments()
+        .iter()
+        .filter_map(|it| it.get_long());
+    let names: Vec<&'a str> = long.filter(|name| *name != "help").collect(alloc)?;
     if let Some(name) = nearest(alloc, option, &names)? {
         return Ok(More::MeantOption(name));
     }

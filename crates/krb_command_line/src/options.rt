@@ -4,17 +4,11 @@ ghost use Rattle.std.specs.Prelude.{◌≡◌, ◌&&◌, filter, length, option_
 ghost use Rattle.std.specs.List.{before_first, list_any};
 ghost use Rattle.std.specs.Result.{result_map_both};
 ghost use Rattle.krb_driver.specs.Mistakes.{mistake_parts};
-ghost use Rattle.krb_command_line.specs.Words.{is_equals, is_of_name, is_operand, missing_operand, takes_long_value, takes_values, wants_long, wants_value, with_operand, with_value};
+ghost use Rattle.krb_command_line.specs.Words.{is_equals, is_operand, missing_operand, takes_long_value, takes_values, wants_long, wants_value, with_operand};
 
 use crate::bundle::bundled_value;
 use clap::{Arg, ArgAction};
 use krb_driver::{Mistake, Phrase};
-
-fn is_of_name(option: &Arg<'_>, name: &str) -> bool
-    ensures { result ≡ is_of_name name.now option.now }
-{
-    option.get_long() == Some(name)
-}
 
 /// Returns whether an option takes values, or an operand many words.
 pub fn takes_values(option: &Arg<'_>) -> bool
@@ -27,18 +21,10 @@ pub fn takes_values(option: &Arg<'_>) -> bool
 fn takes_long_value(options: &[Arg<'_>], name: &str) -> Option<bool>
     ensures { result ≡ takes_long_value options.now name.now }
 {
-    let option = options.iter().find(|option| is_of_name(option, name))?;
+    let option = options
+        .iter()
+        .find(|option| option.get_long() == Some(name))?;
     Some(takes_values(option))
-}
-
-// Returns whether a long option with its value needs the next word: never; or `None` if it takes none.
-fn with_value(takes: Option<bool>) -> Option<bool>
-    ensures { result ≡ with_value takes }
-{
-    match takes {
-        Some(true) => Some(false),
-        _ => None,
-    }
 }
 
 // Returns whether a long option, without its `--`, needs the next word as a value, or `None` if it is unknown. A flag
@@ -47,7 +33,10 @@ fn wants_long(options: &[Arg<'_>], word: &str) -> Option<bool>
     ensures { result ≡ wants_long options.now word.now }
 {
     match word.split_once('=') {
-        Some((name, _)) => with_value(takes_long_value(options, name)),
+        Some((name, _)) => match takes_long_value(options, name) {
+            Some(true) => Some(false),
+            _ => None,
+        },
         None => takes_long_value(options, word),
     }
 }
@@ -72,23 +61,18 @@ pub fn wants_value<'a>(options: &[Arg<'_>], word: &'a str) -> Result<bool, Mista
     }
 }
 
-fn is_operand(arg: &Arg<'_>) -> bool
-    ensures { result ≡ is_operand arg.now }
-{
-    arg.is_positional()
-}
-
 // Returns whether some operand takes many words.
 fn takes_many(args: &[Arg<'_>]) -> bool
     ensures { result ≡ list_any (λ arg. is_operand arg && takes_values arg) args.now }
 {
-    args.iter().any(|arg| is_operand(arg) && takes_values(arg))
+    args.iter()
+        .any(|arg| arg.is_positional() && takes_values(arg))
 }
 
 fn operand_count(args: &[Arg<'_>]) -> usize
     ensures { result ≡ length (filter is_operand args.now) }
 {
-    args.iter().filter(|arg| is_operand(arg)).count()
+    args.iter().filter(|arg| arg.is_positional()).count()
 }
 
 /// Returns the number of operands with one more word, or else that word as a mistake.
@@ -108,7 +92,7 @@ pub fn with_operand<'a>(args: &[Arg<'_>], count: usize, word: &'a str) -> Result
 pub fn missing_operand<'a>(args: &[Arg<'a>], count: usize) -> Option<&'a str>
     ensures { option_map (λ name. name.now) result ≡ missing_operand args.now count }
 {
-    let mut operands = args.iter().filter(|arg| is_operand(arg)).skip(count);
+    let mut operands = args.iter().filter(|arg| arg.is_positional()).skip(count);
     let missing = operands.find(|arg| arg.is_required_set())?;
     Some(missing.get_id())
 }

@@ -1,4 +1,4 @@
-use Rattle.krb_command_line.proofs.Cited.{◌≡◌, drop, fold}
+use Rattle.std.specs.Prelude.{◌≡◌, drop, fold}
 use Rattle.krb_command_line.specs.Nearest.{nearer, nearest}
 use Rattle.krb_command_line.proofs.nearest.nearest.Given as goal
 
