@@ -11,7 +11,7 @@ SHOWN = """
 crates/krbfile/stdout: KVNO Principal (a keytab)
 tests/words/command_lines.py: klist -k{letters} k (its columns)
 tests/words/mistakes.py: {option} does not go with -k; {option} is for keytabs
-tests/keytabs/listings.py: no entries; the smallest entry; a fault at (of each kind, after an entry); "times", keytab;
+tests/keytabs/listings.py: OBJECTS[:3] (the offset of a cache); no entries; the smallest entry; a fault at (of each kind, after an entry); "times", keytab;
  versions of 8 and of 32 bits; a count of 0 in version 1; case("version 1",; version 1 in the other order; f"no keytab
 tests/keytabs/removals.py: looked up: (the newest, one of a type, one of a version, what is not there)
 tests/keytabs/edits.py: into a hole and at the end (the first hole with room, not the best, as large as it was);
@@ -31,9 +31,9 @@ tests/c/refused_memory.c: set_config(void) (all stays)
 tests/system/clock.py: the clock with (an entry of ktutil, listed and saved)
 tests/system/failing_streams.py: OF_EACH = (reads, writes); OF_SAVE = ; OF_INPUT = ; {most} bytes at a time
 tests/system/refused_memory.py: memory refused {way} (a script prints and saves nothing)
-crates/samples/proofs/Commands.antt: edit-displays : (a walk over nothing)
+tests/corpus/cases.jsonl: "id": "a-walk-over-nothing"
 crates/samples/proofs/NamesAndTimes.antt: parts : ; quoted : ; default-realm : ; name-faults :
-crates/samples/proofs/Stores.antt: full : ; no-growth : ; walks : ; offset : ; value : ; walked : ; new-cache :
+crates/samples/proofs/Stores.antt: full : ; no-growth : ; walks : ; value : ; walked : ; new-cache :
 crates/library_tests/src/tests/keytabs.rt: fn the_first_hole (and a new keytab of version 1)
 crates/library_tests/src/tests/caches.rt: fn calls_that_take_memory (a new cache with an offset)
 crates/library_tests/src/tests/files.rt: fn no_end_and_no_room

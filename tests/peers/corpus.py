@@ -17,6 +17,8 @@ from pathlib import Path
 from runs.harness import TOP, Case, Outcome, Report
 
 FOLDER = os.path.join(TOP, "tests", "corpus")  # of the files and cases
+CODES = {"-1765328203": "refused 9\n", "-1765328154": "refused 10\n"}  # MIT's error numbers, and what krbfile says
+WRAPPED = "find-java-new-300-18-user@PEER.TEST"  # where MIT's library takes version 300 for 44, of the same 8 bits
 ROW = re.compile(r"^\| `(\S+)` \| (.*?) \| .*? \|$", re.M)  # of a table in its README: a file, and who wrote it
 
 
@@ -65,7 +67,17 @@ def case_of(fields: dict) -> Case:
     return Case(fields["id"], tuple(fields["argv"]), wanted, before, before | after, stdin.encode())
 
 
+def said(answer: str) -> str:
+    """Returns what krbfile says where MIT's library gives that answer."""
+    words = answer.split()
+    return f" kvno {words[2]} etype {words[4]} " if words[0] == "found" else CODES[words[2]]
+
+
 def check(report: Report, program: str) -> None:
-    """Runs each case."""
+    """Runs each case. Those of look-ups say what MIT's library answers."""
     for fields in cases():
         case_of(fields).check(report, program)
+    for fields in cases("ktfind"):
+        printed = given(fields["stdout"]) + given(fields["stderr"])
+        is_other = (said(fields["mit"]).encode() not in printed) != (fields["id"] == WRAPPED)
+        report.check(f"MIT's answer to {fields['id']}", [fields["mit"]] * is_other)

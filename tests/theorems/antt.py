@@ -7,21 +7,15 @@ from dataclasses import dataclass
 # Names that a module may import, by the module that they come from.
 IMPORTS = {source: names.split() for source, names in {
     "Rattle.std.specs.Prelude":
-        "◌≡◌ ℕ List [] ◌∷◌ ◌++◌ ◌==◌ ◌||◌ codes length map filter get_or Option None Some true false not if◌then◌else◌ "
-        "Ok Err pos negsuc",
-    "Rattle.std.proofs.Common": "refl", "Rattle.krb_walk.specs.declared.event.Event.TheVariants": "Cut Rewrite",
-    "Rattle.krb_walk.specs.declared.refusal.Code.TheVariants": "NotFound KvnoNotFound",
-    "Rattle.krb_keytab.specs.Changes": "without", "Rattle.krb_keytab.specs.Find": "PlacedEntry",
-    "Rattle.krb_keytab.specs.Store": "image_of", "Rattle.krb_ccache.specs.Config": "is_config",
+        "◌≡◌ ℕ List [] ◌∷◌ ◌++◌ ◌==◌ ◌||◌ codes map filter Option None Some true false not if◌then◌else◌ pos negsuc",
+    "Rattle.std.proofs.Common": "refl", "Rattle.krb_ccache.specs.Config": "is_config",
     "Rattle.krb_ccache.specs.Credential": "TypedData", "Rattle.krb_ccache.specs.Header": "offset_in",
     "Rattle.krb_ccache.specs.Store": "PlacedCredential placed_credentials",
     "Rattle.krb_ccache.specs.SetConfig": "SettingParts setting_events",
     "Rattle.krb_ccache.specs.Ticket": "ticket_encryption",
     "Rattle.krb_ccache.specs.declared.ticket.TicketEncryption": "TicketEncryption",
     "Rattle.krb_text.specs.Calendar": "day_number day_text next_day time_text_of",
-    "Rattle.krb_driver.specs.Loading": "result_map",
-    "Rattle.samples.proofs.Given":
-        "hex keytab cache found old listed cache_listed all details left cache_left",
+    "Rattle.samples.proofs.Given": "hex cache cache_left",
     "Rattle.samples.proofs.Runs": "words given those klist klist_overview klist_silent show ktfind ktmatch ktcheck "
                                   "ktdiff ktedit ccedit ktremove ccremove ktcopy ktutil hold",
     "Rattle.samples.proofs.Unfolded": "on_literals",

@@ -11,10 +11,11 @@ import re
 from ipaddress import ip_address
 
 from keytabs.listings import BY_NAME
-from peers.corpus import cases, files, given, writers
-from theorems.antt import Module, bytes_of_digits, file_of, identifier, listed, proof_of, text, theorem
+from peers.corpus import case_of, cases, files, given, writers
+from runs.harness import Case, Outcome
+from theorems.antt import Module, bytes_of_digits, file_of, identifier, listed, text, theorem
 from theorems.mit_listings import cache_listing, credentials, etype_name, keytab_listing, parts_of
-from theorems.of_rows import encryption
+from theorems.of_rows import encryption, rows
 
 # Files where MIT's programs say something else: they stop at an empty component, and read a record of version 1
 # that is longer than the file, and krbfile refuses version 2.
@@ -25,33 +26,31 @@ DAMAGED = ("hole-last-truncated", "stray-3-bytes", "truncated")
 # Caches with tickets that MIT's klist cannot decode: of such a ticket it shows no encryption type.
 UNDECODED = ("lib-authdata-addrs", "lib-removed", "lib-removed-before", "mit-t_marshal-v3", "mit-t_marshal-v4")
 
-# For each kind of file its title, MIT's listing, and the definition of ours, with those columns.
-KINDS = {"keytab": ("Keytabs", keytab_listing, "listed all"),
-         "ccache": ("Caches", cache_listing, "cache_listed details")}
-WITHOUT_ETYPES = "cache_listed (record { flags = true; etypes = false; configs = true })"
+# For each kind of file its title, MIT's listing, and the options of ours, with those columns.
+KINDS = {"keytab": ("Keytabs", keytab_listing, "-kteK"), "ccache": ("Caches", cache_listing, "-fCe")}
 
 OFFSET = theorem("MIT kinit, with a clock that was 200 seconds ahead of the KDC's", "kinit-offset",
                  f"offset_in (cache {file_of('kinit-offset-faketime')}).header",
                  "Some (record { seconds = negsuc 199; micros = pos 0 })")
 
 
-def listing(kind: str, name: str) -> str:
-    """Returns the theorem of a listing: it is MIT's in krbfile's form, with the fault of a damaged file."""
-    _, listing_of, ours = KINDS[kind]
-    wanted, source = listing_of(name).encode(), "as MIT's klist prints it"
+def listing(kind: str, name: str, image: bytes) -> Case:
+    """Returns the listing of a file: it is MIT's in krbfile's form, with the fault of a damaged file."""
+    _, listing_of, options = KINDS[kind]
+    wanted = listing_of(name).encode()
     if name in DAMAGED:
         case = next(case for case in cases("klist") if case["argv"][-1] == name)
-        wanted, source = wanted + given(case["stdout"]).splitlines(True)[-1], f"{source}, and the fault"
-    left = f'{WITHOUT_ETYPES if name in UNDECODED else ours} (codes "{name}") {file_of(name)}'
-    return theorem(f"{writers()[name]}; {source}", f"{identifier(name)}-listed", left, f"Ok ({text(wanted)})",
-                   proof_of(wanted, "Ok (", ")"))
+        wanted += given(case["stdout"]).splitlines(True)[-1]
+    options = options.rstrip("e") if name in UNDECODED else options
+    return Case(f"{name}, {writers()[name]}", ("klist", options, name), Outcome(int(name in DAMAGED), wanted),
+                {name: image})
 
 
 def listings(kind: str) -> Module:
     """Returns the theorems of all files of a kind."""
-    items = [listing(kind, name) for name, _ in files(kind) if name not in ALONE]
     title = KINDS[kind][0]
-    return Module(title, f"{title} that other programs wrote, and their listings.",
+    items = rows(title, (listing(kind, *file) for file in files(kind) if file[0] not in ALONE))
+    return Module(title, f"{title} that other programs wrote, and their listings, as MIT's klist prints them.",
                   (*items, *[OFFSET] * (kind == "ccache")))
 
 
@@ -105,15 +104,6 @@ def addresses() -> Module:
                   (*TICKET_FACTS, *map(addresses_of, names)))
 
 
-# Files that are as their writers left them, without holes. Rewritten, each has the same bytes.
-WRITTEN = {
-    "keytab": ("empty-v2", "gokrb5-new", "ktadd-all-etypes", "ktutil-kvno-edge", "mit-t_keytab-c", "name-slash",
-               "name-utf8"),
-    "ccache": ("kinit-addresses", "kinit-fast", "kinit-offset-faketime", "lib-authdata-addrs", "lib-config-values",
-               "lib-removed-before", "mit-t_marshal-v4"),
-}
-REWRITE = {"keytab": 'left {} (codes "rewrite\\n")', "ccache": "cache_left {} (Rewrite ∷ [])"}
-
 # What MIT's krb5_cc_set_config was given, in turn, to write lib-config-values: key, principal and value. It began with
 # a new cache of u@R.
 SETTINGS = ((b"k", None, b""), (b"sp", None, b"a b"), (b"nl", None, b"x\ny\x7f\xc3\xbc\\z"),
@@ -124,11 +114,6 @@ SET = """-- the image after a configuration value is set in the cache of an imag
 abbrev set : List ℕ → SettingParts → List ℕ
 set image setting = cache_left image (setting_events (cache image) setting)
 """
-MARKED = theorem("MIT krb5_cc_remove_cred left the same bytes", "cache-removal",
-                 f"cache_left {file_of('lib-removed-before')} (Cut 120 ∷ [])", file_of("lib-removed"))
-OLD = theorem("what -k old selects: MIT kadmin ktremove old left the same bytes", "old-removal",
-              f"image_of (without (keytab {file_of('ktadd-kvno-history')}) "
-              f"(map (λ x. x.0) (old (keytab {file_of('ktadd-kvno-history')}))))", file_of("ktremove-old"))
 
 
 def setting(key: bytes, principal: bytes | None, value: bytes) -> str:
@@ -146,46 +131,14 @@ def settings() -> str:
                    image, file_of("lib-config-values"))
 
 
-def rewritten(kind: str, name: str) -> str:
-    """Returns the theorem that a file has the same bytes when it is rewritten."""
-    return theorem(f"{writers()[name]}: rewritten it has the same bytes", f"{identifier(name)}-written",
-                   REWRITE[kind].format(file_of(name)), file_of(name))
-
-
 def changes() -> Module:
     """Returns the theorems of all changes."""
-    items = [rewritten(kind, name) for kind, names in WRITTEN.items() for name in names]
+    items = rows("changes", (case_of(fields) for fields in cases() if fields.get("result_file")))
     return Module("Changes", "Changes of files that other programs wrote, and the bytes that those programs left.",
-                  (*items, OLD, MARKED, SET, settings()))
-
-
-FOUND = re.compile(r"found kvno (\d+) etype (\d+) time (\d+) keylen (\d+) first (\w\w)")
-
-MIT_CODES = {"-1765328203": "NotFound", "-1765328154": "KvnoNotFound"}  # MIT's error numbers
-WRAPPED = "find-java-new-300-18-user@PEER.TEST"  # where MIT's library takes version 300 for 44, of the same 8 bits
-
-ENTRY_FACTS = """-- the version, encryption type and time of an entry, the length of its key, and the first byte of that
-abbrev facts : PlacedEntry → ℕ × ℕ × ℕ × ℕ × ℕ
-facts x = (x.1.version, x.1.enctype, x.1.timestamp, length x.1.key, get_or x.1.key 0 0)
-"""
-
-
-def answered(answer: str) -> str:
-    """Returns MIT's answer as a result."""
-    if found := FOUND.fullmatch(answer):
-        return f"Ok ({', '.join([*found.groups()[:4], '0x' + found[5]])})"
-    return f"Err {MIT_CODES[answer.split()[2]]}"
-
-
-def look_up(number: int, case: dict) -> str:
-    """Returns the theorem of a look-up: what MIT's library answers."""
-    _, file, kvno, etype, name = case["argv"]
-    return theorem(f"{writers()[file]}; MIT's library: {case['mit'].removeprefix('get: ')}", f"look-up-{number}",
-                   f'result_map facts (found {file_of(file)} (codes "{name}") {kvno} {etype})', answered(case["mit"]))
+                  (*items, SET, settings()))
 
 
 def look_ups() -> Module:
-    """Returns the theorems of all look-ups."""
-    items = [look_up(number, case) for number, case in enumerate(cases("ktfind")) if case["id"] != WRAPPED]
-    return Module("LookUps", "Look-ups in keytabs that other programs wrote, and what MIT's library answers to them.",
-                  (ENTRY_FACTS, *items))
+    """Returns the theorems of look-ups."""
+    return Module("LookUps", "Look-ups in keytabs that other programs wrote; most find what MIT's library finds.",
+                  tuple(rows("look-ups", map(case_of, cases("ktfind")))))

@@ -3,6 +3,7 @@
 They are of the rows in THEOREMS of each topic, and of those of ticket_types.
 """
 
+from collections.abc import Iterable
 from dataclasses import replace
 
 from computed.terms import row_of
@@ -23,10 +24,14 @@ def run(topic: str, number: int, row: Case | Explained) -> str:
     return f"-- {topic}: {case.name[:80]!r}\n{row_of(f'{identifier(topic)}-{number}', case)}"
 
 
+def rows(topic: str, cases: Iterable[Case | Explained]) -> list[str]:
+    """Returns the theorems of some runs."""
+    return [run(topic, number, row) for number, row in enumerate(cases, 1)]
+
+
 def runs() -> Module:
-    """Returns the theorems of all runs."""
-    items = [run(topic, number, row) for topic, module in modules().items()
-             for number, row in enumerate(getattr(module, "THEOREMS", ()), 1)]
+    """Returns the theorems of all runs of topics."""
+    items = [it for topic, module in modules().items() for it in rows(topic, getattr(module, "THEOREMS", ()))]
     return Module("Rows", "Runs, as rows of tests have them.", tuple(items))
 
 

@@ -1,37 +1,33 @@
 -- The names that the proofs cite most, passed on from one place. Declares nothing.
 pub use Rattle.std.proofs.Common.{refl, arith}
-pub use Rattle.std.specs.List.{flat_map, filter_map, list_any}
-pub use Rattle.std.specs.Prelude.{codes, true, ◌≡◌, false, Some, Ok, None, ◌++◌, Err, [], ◌∷◌, ℕ, map, List, option_map, replicate, Result, ◌+◌, length, Bool, if◌then◌else◌, Option, nat_lt, filter, option_and_then, unwrap_or, pos, negsuc, fold, ◌*◌, ◌-◌, Vec, ◌^◌, slice_get, ◌≤◌, ◌<◌, max, nat_eq, ◌&&◌}
-pub use Rattle.krb_audit.specs.declared.selection.SelectedKvno.TheVariants.{Old, Newest, Any}
-pub use Rattle.krb_ccache.specs.Credential.{CredParts}
-pub use Rattle.krb_driver.specs.Commands.{Saves, CommandPlan, Displays, Effect, Fails, files_after}
-pub use Rattle.krb_driver.specs.Loading.{result_map}
-pub use Rattle.krb_driver.specs.declared.verdict.Verdict.TheVariants.{Well, Without}
+pub use Rattle.std.specs.List.{filter_map, flat_map, list_any}
+pub use Rattle.std.specs.Prelude.{◌≡◌, ◌+◌, ℕ, [], ◌∷◌, map, codes, true, false, None, Some, Ok, Err, ◌-◌, ◌*◌, List, ◌++◌, nat_lt, if◌then◌else◌, ◌<◌, ◌≤◌, ◌^◌, max, length, fold, Bool, Option, option_and_then, option_map, unwrap_or, Result, Vec, slice_get, nat_eq, filter, ◌&&◌, replicate, pos, negsuc, ⊤}
+pub use Rattle.krb_audit.specs.declared.selection.SelectedKvno.TheVariants.{Old, Any, Newest}
+pub use Rattle.krb_driver.specs.declared.verdict.Verdict.TheVariants.{Without, Well}
 pub use Rattle.krb_editors.specs.Ccremove.{ended_by, ccremove_plan}
 pub use Rattle.krb_files.specs.Loading.{most_bytes}
-pub use Rattle.krb_keytab.specs.Store.{open_result, image_of, KeytabState, empty}
-pub use Rattle.krb_keytab_text.specs.Listing.{list_text}
-pub use Rattle.krb_keytab_text.specs.Script.{event_in, script_by}
+pub use Rattle.krb_keytab.specs.Store.{KeytabState, open_result, empty}
 pub use Rattle.krb_wire.specs.NameOf.{name_of}
 pub use Rattle.krb_wire.specs.declared.format.KtFormat.TheVariants.{V2}
 pub use Rattle.krb_wire.specs.declared.format.Order.TheVariants.{Little}
-pub use Rattle.std.specs.Result.{result_map_both, result_ok, result_unwrap_or}
-pub use Rattle.krb_walk.specs.Events.{start_reply, SessionState}
-pub use Rattle.krb_walk.specs.ReplyContent.{Started, Placed, Refused, ReplyContent}
-pub use Rattle.krb_ccache.specs.Changes.{create_result, empty_cache}
+pub use Rattle.std.specs.Result.{result_unwrap_or, result_map_both, result_ok}
+pub use Rattle.krb_walk.specs.Events.{SessionState, start_reply}
+pub use Rattle.krb_walk.specs.ReplyContent.{ReplyContent, Started, Placed, Refused, Gave, Ended, Gone}
+pub use Rattle.krb_ccache.specs.Changes.{empty_cache, create_result}
 pub use Rattle.krb_wire.specs.Spelling.{Parts}
-pub use Rattle.krb_files.specs.Files.{FileMap, loaded, node_of}
+pub use Rattle.krb_files.specs.Files.{node_of, FileMap, loaded}
 pub use Rattle.krb_text.specs.Etype.{etype_in, etype_text_of, key_size_of, is_weak}
-pub use Rattle.krb_text.specs.Numbers.{number_in, seconds_in}
-pub use Rattle.krb_findings.specs.Table.{none}
+pub use Rattle.krb_text.specs.Numbers.{seconds_in, number_in}
 pub use Rattle.krb_driver.specs.declared.command.RunEnd.{RunEnd}
-pub use Rattle.krb_driver.specs.declared.error.RunError.TheVariants.{NothingSelected, FileNotWritten, NoSuchFile}
+pub use Rattle.krb_driver.specs.declared.error.RunError.TheVariants.{FileNotWritten, NoSuchFile, NothingSelected, OtherType}
 pub use Rattle.krb_driver.specs.declared.file_name.FileName.{FileName}
-pub use Rattle.krb_driver.specs.declared.file_name.NameSource.TheVariants.{LikePrincipal, Word, Default}
-pub use Rattle.krb_driver.specs.RunErrors.{Ending, ending_status, end_status, error_status, save_error}
-pub use Rattle.krb_driver.specs.Runs.{ending_text, ErrorWatch}
+pub use Rattle.krb_driver.specs.declared.file_name.NameSource.TheVariants.{Word, Default, LikePrincipal}
+pub use Rattle.krb_driver.specs.RunErrors.{Ending, ending_status, end_status, error_status, save_error, error_of_name}
+pub use Rattle.krb_driver.specs.Runs.{ErrorWatch, ending_text, near_words, words_if}
 pub use Rattle.krb_editors.specs.MissingFiles.{is_missing, missing_error}
 pub use Rattle.krb_editors.specs.Removing.{is_none, seen_after}
-pub use Rattle.krb_editors.specs.Ktremove.{ktremove_plan, old_kvno, needed_time}
-pub use Rattle.krb_ktutil.specs.KtutilTalk.{TalkDue, quiet_run, talk_due, first_talk}
-pub use Rattle.krb_editors.specs.Hold.{frame, most_frame, held_in, received}
+pub use Rattle.krb_editors.specs.Ktremove.{needed_time, ktremove_plan, old_kvno}
+pub use Rattle.krb_ktutil.specs.KtutilTalk.{first_talk, quiet_run, talk_due}
+pub use Rattle.krb_editors.specs.Hold.{most_frame, frame, held_in, received, hold_kind, file_kind as held_file_kind}
+pub use Rattle.krb_ccache.specs.Store.{CacheState, open_result as cache_result, image_of as cache_image}
+pub use Rattle.krb_editors.specs.HoldEnds.{last_line, HoldEnd, about_end, ending_of as end_of_hold}

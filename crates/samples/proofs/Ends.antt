@@ -1,5 +1,6 @@
 -- How runs end, when they read the clock, and what hold takes: worked by hand from krbfile(1).
-use Rattle.samples.proofs.Cited.{◌≡◌, ◌+◌, ℕ, [], ◌∷◌, map, codes, true, false, None, Some, Ok, Err, refl, most_bytes, Old, Well, CommandPlan, ended_by, node_of, FileName, Word, Default, ErrorWatch, end_status, error_status, save_error, most_frame, needed_time, is_missing, first_talk}
+use Rattle.samples.proofs.Cited.{refl, ◌≡◌, ◌+◌, ℕ, [], ◌∷◌, map, codes, true, false, None, Some, Ok, Err, Old, Without, Well, ended_by, most_bytes, node_of, RunEnd, FileNotWritten, NoSuchFile, FileName, Word, Default, Ending, ending_status, end_status, error_status, save_error, ErrorWatch, is_missing, is_none, seen_after, needed_time, first_talk, most_frame, last_line}
+use Rattle.krb_driver.specs.Commands.{CommandPlan, always, of_file}
 use Rattle.krb_wire.specs.declared.format.Order.{Order}
 use Rattle.krb_walk.specs.declared.fault.FaultKind.TheVariants.{CutLength}
 use Rattle.krb_files.specs.declared.aftermath.Aftermath.TheVariants.{Damaged, LostChange, Mixed, Restored}
@@ -8,11 +9,11 @@ use Rattle.krb_files.specs.declared.files.SaveFault.TheVariants as save
 use Rattle.krb_files.specs.declared.node.Node.TheVariants.{Nothing, PlainFile, Folder, Unknown}
 use Rattle.krb_files.specs.Bytes.{Watch}
 use Rattle.krb_driver.specs.declared.error.RunError.TheVariants as error
+use Rattle.krb_audit.specs.Findings.{is_out}
+use Rattle.krb_editors.specs.declared.removing.FilesSeen.TheVariants as seen
 use Rattle.krb_driver.specs.declared.command.World.{World}
-use Rattle.krb_driver.specs.Commands.{always, of_file}
 use Rattle.krb_driver.specs.Several.{first_round, is_last}
 use Rattle.krb_editors.specs.declared.ccremove.TicketOptions.{TicketOptions}
-use Rattle.krb_editors.specs.HoldEnds.{last_line}
 use Rattle.samples.proofs.Unfolded.{on_literals}
 
 -- ---- statuses
@@ -88,3 +89,20 @@ last-failed : map (λ error. last_line 1 (Some InTheWay) None (Err (codes "k", e
     ≡ codes "failed 1 EEXIST\n" ∷ codes "failed 1 EBADMSG\n" ∷ codes "failed 1 31\n" ∷ []
 unfolding on_literals
 last-failed = refl
+
+-- ---- ktcheck
+
+-- MIT's programs take counts and lengths from 1 to 32,767
+check-out : map is_out (0 ∷ 1 ∷ 32767 ∷ 32768 ∷ []) ≡ true ∷ false ∷ false ∷ true ∷ []
+unfolding on_literals
+check-out = refl
+
+-- ---- several files
+
+-- a run that ended so
+abbrev ended : Ending → RunEnd
+ended end = record { ending = end; status = ending_status end }
+
+-- one file is without what is asked for: no file has it if a message was printed about the other one, but not if that was asked
+none-has-it : map (λ end. is_none (seen_after (seen_after seen.None (ended (Ok Without))) (ended end))) (Err (NoSuchFile Word) ∷ Ok Well ∷ Err FileNotWritten ∷ []) ≡ true ∷ false ∷ false ∷ []
+none-has-it = refl

@@ -1,20 +1,10 @@
 -- What the samples are over: bytes as hexadecimal digits, a record and the worked cache of docs/FORMATS.md, and the
 -- keytab or the cache in an image.
-use Rattle.samples.proofs.Cited.{ℕ, ◌+◌, ◌-◌, ◌*◌, List, [], ◌∷◌, ◌++◌, codes, filter, nat_lt, if◌then◌else◌, Result, None, true, Little, V2, name_of, KeytabState, open_result, image_of, empty, CredParts, most_bytes, event_in, script_by, Old, result_map, list_text, result_unwrap_or, Parts, SessionState, ReplyContent, empty_cache}
+use Rattle.samples.proofs.Cited.{ℕ, ◌+◌, ◌-◌, ◌*◌, List, [], ◌∷◌, ◌++◌, codes, nat_lt, if◌then◌else◌, None, most_bytes, KeytabState, open_result, empty, name_of, V2, Little, result_unwrap_or, SessionState, ReplyContent, empty_cache, Parts, CacheState, cache_result, cache_image}
+use Rattle.krb_ccache.specs.Credential.{CredParts}
 use Rattle.krb_walk.specs.declared.event.Event.{Event}
-use Rattle.krb_walk.specs.declared.refusal.Code.{Code}
 use Rattle.krb_walk.specs.History.{history, replies, state_after}
-use Rattle.krb_keytab.specs.declared.open.KtOpenFault.{KtOpenFault}
-use Rattle.krb_keytab.specs.Entry.{EntryParts}
-use Rattle.krb_keytab.specs.Find.{PlacedEntry, find_result, placed_entries}
-use Rattle.krb_keytab.specs.Rewrite.{keytab_rules}
-use Rattle.krb_ccache.specs.declared.open.CcOpenFault.{CcOpenFault}
 use Rattle.krb_ccache.specs.Rewrite.{cache_rules}
-use Rattle.krb_ccache.specs.Store.{CacheState, open_result as cache_result, image_of as cache_image}
-use Rattle.krb_keytab_text.specs.declared.columns.KtColumns.{KtColumns}
-use Rattle.krb_cache_text.specs.declared.columns.CcColumns.{CcColumns}
-use Rattle.krb_cache_text.specs.Listing.{cache_text}
-use Rattle.krb_audit.specs.Selection.{has_selected_kvno}
 
 -- ---- bytes
 
@@ -46,47 +36,11 @@ cache image = result_unwrap_or (cache_result most_bytes image) (empty_cache nobo
 abbrev pub name : List ℕ → Parts
 name text = result_unwrap_or (name_of text None) nobody
 
--- ---- entries
-
--- the entry of a name with a version and an encryption type, 0 for any, or why there is none
-abbrev pub found : List ℕ → List ℕ → ℕ → ℕ → Result PlacedEntry Code
-found image text kvno etype = find_result (keytab image) (name text) kvno etype
-
--- the entries of a keytab that `-k old` selects
-abbrev pub old : KeytabState → List PlacedEntry
-old k = filter (λ x. has_selected_kvno (Old None) 0 (placed_entries k) x.1) (placed_entries k)
-
--- ---- listings
-
--- the listing of the keytab in an image, or why it is none
-abbrev pub listed : KtColumns → List ℕ → List ℕ → Result (List ℕ) KtOpenFault
-listed columns file image = result_map (list_text columns file) (open_result Little most_bytes image)
-
--- the listing of the cache in an image, or why it is none
-abbrev pub cache_listed : CcColumns → List ℕ → List ℕ → Result (List ℕ) CcOpenFault
-cache_listed columns file image = result_map (cache_text columns file) (cache_result most_bytes image)
-
--- the columns of -t, -e and -K
-abbrev pub all : KtColumns
-all = record { times = true; etypes = true; keys = true }
-
--- what -f, -e and -C add
-abbrev pub details : CcColumns
-details = record { flags = true; etypes = true; configs = true }
-
 -- ---- changes
 
 -- a new session over a store
 abbrev pub session : {S : Type 0} → S → SessionState S
 session store = record { store = store; cursors = [] }
-
--- the events of a script for a keytab, none if a line has a fault
-abbrev pub events : List ℕ → List (Event EntryParts)
-events script = result_unwrap_or (script_by event_in script) []
-
--- the image that a script leaves of the keytab in an image
-abbrev pub left : List ℕ → List ℕ → List ℕ
-left image script = image_of (state_after keytab_rules (session (keytab image)) (events script)).store
 
 -- the image that events leave of the cache in an image
 abbrev pub cache_left : List ℕ → List (Event CredParts) → List ℕ

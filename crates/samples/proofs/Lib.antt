@@ -4,5 +4,4 @@ pub mod Runs
 pub mod Unfolded
 mod Stores
 mod NamesAndTimes
-mod Commands
 mod Ends

@@ -1,5 +1,5 @@
 -- Names, encryption types and times as text.
-use Rattle.samples.proofs.Cited.{◌≡◌, [], ◌∷◌, codes, map, None, Some, Ok, Err, true, false, filter_map, refl, name_of, etype_in, etype_text_of, key_size_of, is_weak, seconds_in}
+use Rattle.samples.proofs.Cited.{refl, filter_map, ◌≡◌, [], ◌∷◌, codes, map, None, Some, Ok, Err, true, false, name_of, etype_in, etype_text_of, key_size_of, is_weak, seconds_in}
 use Rattle.krb_wire.specs.declared.name_fault.NameFault.TheVariants.{NoRealm, LoneBackslash, SecondAt, SlashInRealm}
 use Rattle.krb_wire.specs.Names.{name_text}
 use Rattle.krb_text.specs.Word.{pieces}

@@ -1,6 +1,10 @@
 -- What a run of a command comes to if no call fails: what it prints, how it ends, and its files afterwards.
-use Rattle.samples.proofs.Cited.{◌≡◌, ℕ, ◌+◌, ◌<◌, ◌≤◌, ◌^◌, max, List, [], ◌∷◌, ◌++◌, codes, length, map, fold, Bool, true, false, nat_lt, Option, None, Some, option_and_then, option_map, unwrap_or, Result, Ok, Err, if◌then◌else◌, Vec, slice_get, filter_map, flat_map, list_any, arith, refl, name_of, most_bytes, event_in, Any, Newest, Well, CommandPlan, Effect, Fails, Displays, Saves, files_after, ccremove_plan, nat_eq, filter, ◌&&◌, Parts, FileMap, loaded, node_of, etype_in, number_in, seconds_in, none, RunEnd, NothingSelected, FileName, LikePrincipal, Word, Ending, ending_status, ending_text, is_missing, missing_error, is_none, seen_after, ktremove_plan, old_kvno, TalkDue, quiet_run, talk_due, result_map, frame, most_frame, held_in, received}
+use Rattle.samples.proofs.Cited.{arith, refl, filter_map, flat_map, list_any, ◌≡◌, ℕ, ◌+◌, ◌<◌, ◌≤◌, ◌^◌, max, List, [], ◌∷◌, ◌++◌, codes, length, map, fold, Bool, true, false, nat_lt, Option, None, Some, option_and_then, option_map, unwrap_or, Result, Ok, Err, if◌then◌else◌, Vec, slice_get, nat_eq, filter, ◌&&◌, Any, Newest, Well, ccremove_plan, most_bytes, KeytabState, name_of, Parts, FileMap, loaded, node_of, etype_in, number_in, seconds_in, RunEnd, NothingSelected, OtherType, FileName, LikePrincipal, Word, Ending, ending_status, error_of_name, ending_text, near_words, words_if, is_missing, missing_error, is_none, seen_after, ktremove_plan, old_kvno, quiet_run, talk_due, frame, most_frame, held_in, received, hold_kind, held_file_kind, HoldEnd, about_end, end_of_hold, last_line}
+use Rattle.krb_driver.specs.Commands.{CommandPlan, Effect, Fails, Displays, Saves, files_after, opens}
+use Rattle.krb_keytab_text.specs.Script.{event_in}
+use Rattle.krb_findings.specs.Table.{none}
 use Rattle.std.specs.Str.{bytes_eq}
+use Rattle.std.specs.Option.{option_map_or}
 use denote.RawPtr.{null_ptr}
 use lib.Dec.{lit<, lit≤}
 use Rattle.krb_wire.specs.declared.principal.Principal.{Principal}
@@ -14,19 +18,13 @@ use Rattle.krb_driver.specs.declared.verdict.FileKind.{FileKind}
 use Rattle.krb_driver.specs.declared.verdict.FileKind.TheVariants.{Keytab, Cache, Either}
 use Rattle.krb_driver.specs.FileNames.{bare_name, is_other_type}
 use Rattle.krb_driver.specs.Mistakes.{Matched, first_value, printed_name, v1_order}
-use Rattle.krb_driver.specs.Commands.{opens}
+use Rattle.krb_driver.specs.Loading.{result_map, result_map_err, whole_in}
 use Rattle.krb_driver.specs.Effects.{about, ending_of, saves_unless}
-use Rattle.krb_driver.specs.Loading.{result_map_err, whole_in}
-use Rattle.krb_driver.specs.RunErrors.{error_of_name}
 use Rattle.krb_readers.specs.Ktcheck.{aged_by, explained_after, findings, plan_of as check_plan}
 use Rattle.krb_readers.specs.declared.ktcheck.words.CheckOptions.{CheckOptions}
 use Rattle.krb_readers.specs.Klist.{file_kind, klist_plan, list_kind, list_options, printed_after, check_of, check_status}
-use Rattle.krb_keytab.specs.Store.{KeytabState}
 use Rattle.krb_match.specs.Names.{entry_text}
-use Rattle.krb_driver.specs.declared.error.RunError.TheVariants.{OtherType}
-use Rattle.krb_driver.specs.declared.verdict.Judged.{Judged}
 use Rattle.krb_driver.specs.EndingWords.{found_fault_words}
-use Rattle.krb_driver.specs.Runs.{near_words, words_if}
 use Rattle.krb_readers.specs.Ktmatch.{first_state, is_none as is_none_matched, match_plan, none_error, sought, state_after}
 use Rattle.krb_readers.specs.declared.ktmatch.state.MatchState.{MatchState}
 use Rattle.krb_readers.specs.declared.ktmatch.words.MatchOptions.{MatchOptions}
@@ -41,10 +39,7 @@ use Rattle.krb_editors.specs.declared.removing.FilesSeen.{FilesSeen}
 use Rattle.krb_editors.specs.declared.removing.FilesSeen.TheVariants as seen
 use Rattle.krb_editors.specs.Sessions.{lines_in}
 use Rattle.krb_editors.specs.Selecting.{kvno_in}
-use Rattle.krb_editors.specs.Hold.{hold_kind, file_kind as held_file_kind}
-use Rattle.krb_editors.specs.HoldEnds.{HoldEnd, about_end, ending_of as end_of_hold, last_line}
 use Rattle.krb_editors.specs.declared.hold.last_line.Outcome.TheVariants.{Saved, Left}
-use Rattle.krb_editors.specs.declared.hold.words.HoldKind.{HoldKind}
 use Rattle.krb_ktutil.specs.declared.ktutil.awaiting.Awaiting.TheVariants.{Nothing}
 use Rattle.krb_ktutil.specs.InputLines.{lines_of}
 
@@ -161,54 +156,57 @@ follows explains files plan =
     let effect = follow files plan in
     ends explains (output effect) (about effect) (ending_of effect) (files_after files effect)
 
--- the same if the input gives the lines of the plan, and otherwise an error
-abbrev follows_lines : {L : Type 0} → Bool → FileMap → (L → CommandPlan) → Result L RunError → Seen
-follows_lines explains files plan (Ok lines) = follows explains files (plan lines)
-follows_lines explains files plan (Err why) = ends explains [] [] (Err why) files
+-- a run by what was read first, for a file; or its error ends it
+abbrev unless_fails : {X : Type 0} → Bool → List ℕ → FileMap → (X → Seen) → Result X RunError → Seen
+unless_fails explains file files run (Ok x) = run x
+unless_fails explains file files run (Err why) = ends explains [] file (Err why) files
 
 -- a run, and after it another
 abbrev followed_by : Seen → Seen → Seen
 followed_by first next = record { out = first.out ++ next.out; err = first.err ++ next.err; status = max first.status next.status; files = next.files }
 
--- a command over files one after the other, and how what it remembers at last ends it
-abbrev over : {S : Type 0} → Bool → (S → FileName → CommandPlan) → (S → RunEnd → S) → (S → FileMap → Seen) → S → FileMap → List FileName → Seen
-over explains plan after last state files [] = last state files
-over explains plan after last state files (file ∷ names) =
+-- a command over files one after the other, with what is said after each, and how what it remembers at last ends it
+abbrev over : {S : Type 0} → Bool → (S → FileName → CommandPlan) → (S → RunEnd → S) → (S → List ℕ → List ℕ) → (S → FileMap → Seen) → S → FileMap → List FileName → Seen
+over explains plan after said last state files [] = last state files
+over explains plan after said last state files (file ∷ names) =
     let effect = follow files (plan state file) in
     let first = follows explains files (Ends effect) in
-    followed_by first (over explains plan after last (after state (record { ending = ending_of effect; status = first.status })) first.files names)
+    let next = after state (record { ending = ending_of effect; status = first.status }) in
+    followed_by (record first { err = first.err ++ said next file.name.now }) (over explains plan after said last next first.files names)
+
+-- the same if nothing is said after a file and at the end
+abbrev over_all : {S : Type 0} → Bool → (S → FileName → CommandPlan) → (S → RunEnd → S) → S → FileMap → List FileName → Seen
+over_all explains plan after = over explains plan after (λ state file. []) (λ state. ends explains [] [] (Ok Well))
 
 -- ---- the commands, over files
 
 abbrev pub klist : Bool → FileMap → Matched → Seen
-klist explains files ws = over explains (klist_plan (list_options ws)) printed_after (λ printed. ends explains [] [] (Ok Well)) false files (operands ws (file_kind (list_kind ws)))
+klist explains files ws = over_all explains (klist_plan (list_options ws)) printed_after false files (operands ws (file_kind (list_kind ws)))
 
 -- `klist -l` at a second
 abbrev pub klist_overview : Bool → ℕ → FileMap → Matched → Seen
 klist_overview explains now files ws =
     followed_by (ends explains (heading (ws.flag (codes "json"))) [] (Ok Well) files)
-    (over explains (λ state. overview_plan (ws.flag (codes "json")) now) (λ state end. state) (λ state. ends explains [] [] (Ok Well)) (tt {0}) files (operands ws Cache))
+    (over_all explains (λ state. overview_plan (ws.flag (codes "json")) now) (λ state end. state) (tt {0}) files (operands ws Cache))
 
 -- `klist -s` at a second: it prints nothing
 abbrev pub klist_silent : ℕ → FileMap → Matched → Seen
-klist_silent now files ws = record { out = []; err = []; status = status_of (operand ws Cache (codes "FILE")); files = files } where
-  status_of : FileName → ℕ
-  status_of file = if file.is_other_type then 1 else check_status (now + (check_of ws).seconds) (loaded (files file.name.now) most_bytes)
+klist_silent now files ws =
+    let file = operand ws Cache (codes "FILE") in
+    let status = if file.is_other_type then 1 else check_status (now + (check_of ws).seconds) (loaded (files file.name.now) most_bytes) in
+    record { out = []; err = []; status = status; files = files }
 
 -- at a second
 abbrev pub show : Bool → ℕ → FileMap → Matched → Seen
-show explains now files ws = over explains (show_plan (v1_order ws) now) printed_after (λ printed. ends explains [] [] (Ok Well)) false files (operands ws Either)
+show explains now files ws = over_all explains (show_plan (v1_order ws) now) printed_after false files (operands ws Either)
 
 abbrev pub ktfind : Bool → FileMap → Matched → Seen
-ktfind explains files ws = finds (principal_of (name_of (ws.operand (codes "NAME")) None)) where
-  finds : Option (Principal (Unit {0})) → Seen
-  finds None = ends explains [] [] (Ok Well) files
-  finds (Some name) = follows explains files (ktfind_plan (record {
-    name = name;
-    kvno = unwrap_or (number_in 32 (ws.operand (codes "KVNO"))) 0;
-    enctype = unwrap_or (etype_in (ws.operand (codes "ETYPE"))) 0;
-    v1_order = v1_order ws;
-  }) (operand ws Keytab (codes "FILE")))
+ktfind explains files ws = option_map_or (λ name. follows explains files (ktfind_plan (record {
+  name = name;
+  kvno = unwrap_or (number_in 32 (ws.operand (codes "KVNO"))) 0;
+  enctype = unwrap_or (etype_in (ws.operand (codes "ETYPE"))) 0;
+  v1_order = v1_order ws;
+}) (operand ws Keytab (codes "FILE")))) (principal_of (name_of (ws.operand (codes "NAME")) None)) (ends explains [] [] (Ok Well) files)
 
 -- the options of ktcheck
 abbrev check_options : Matched → CheckOptions (Unit {0})
@@ -224,11 +222,10 @@ check_options ws = record {
 
 -- the files are plain with this mode; a finding is explained once
 abbrev pub ktcheck : Bool → ℕ → ℕ → FileMap → Matched → Seen
-ktcheck explains mode now files ws = checks (aged_by (check_options ws).older (Some now)) where
-  checks : Result (Option ℕ) RunError → Seen
-  checks (Err why) = ends explains [] [] (Err why) files
-  checks (Ok by) =
-      over explains (λ explained file. check_plan (check_options ws) by (nat_lt 1 (length (ws.values (codes "FILE")))) explained file (Some mode)) explained_after (λ explained. ends explains [] [] (Ok Well)) none files (operands ws Keytab)
+ktcheck explains mode now files ws =
+    let o = check_options ws in
+    let are_several = nat_lt 1 (length (ws.values (codes "FILE"))) in
+    unless_fails explains [] files (λ by. over_all explains (λ explained file. check_plan o by are_several explained file (Some mode)) explained_after none files (operands ws Keytab)) (aged_by o.older (Some now))
 
 -- the options of ktmatch
 abbrev match_options : Matched → MatchOptions (Unit {0})
@@ -240,64 +237,42 @@ match_options ws = record {
   names = names_of (ws.values (codes "principal"));
 }
 
--- the keytab that ktmatch is given
-abbrev matched_keytab : Matched → FileName
-matched_keytab ws = named false Keytab (ws.operand (codes "KEYTAB"))
-
--- what is explained of a cache after its run
-abbrev explained_after_run : KeytabState → List ℕ → Option Judged → List ℕ
-explained_after_run k file None = []
-explained_after_run k file (Some found) = near_words (option_map (entry_text k) found.near) ++ found_fault_words file found.fault
+-- what is said of a cache after its run
+abbrev said_of : KeytabState → MatchState → List ℕ → List ℕ
+said_of k s file = option_map_or (λ found. near_words (option_map (entry_text k) found.near) ++ found_fault_words file found.fault) s.last []
 
 -- the tickets of caches are matched, one cache after the other, and at the end it is reported if there were none
-abbrev match_each : Bool → MatchOptions (Unit {0}) → List FileName → List ℕ → KeytabState → MatchState → FileMap → List FileName → Seen
-match_each explains o names keytab k s files [] =
-    let none = none_error (sought o) names in
-    if is_none_matched s then ends explains [] none.1 (Err none.0) files else ends explains [] [] (Ok Well) files
-match_each explains o names keytab k s files (file ∷ rest) =
-    let effect = follow files (match_plan o keytab (nat_lt 1 (length names)) (k, explains) s file) in
-    let first = follows explains files (Ends effect) in
-    let after = state_after s (record { ending = ending_of effect; status = first.status }) in
-    let words : Seen = record { out = []; err = words_if explains (explained_after_run k file.name.now after.last); status = 0; files = first.files } in
-    followed_by first (followed_by words (match_each explains o names keytab k after first.files rest))
-
 abbrev pub ktmatch : Bool → FileMap → Matched → Seen
 ktmatch explains files ws =
-    matches (if (matched_keytab ws).is_other_type then Err (OtherType (matched_keytab ws).kind (matched_keytab ws).source) else result_map_err (error_of_name (matched_keytab ws).source) (whole_in (v1_order ws) (loaded (files (matched_keytab ws).name.now) most_bytes))) where
-      matches : Result KeytabState RunError → Seen
-      matches (Err why) = ends explains [] (matched_keytab ws).name.now (Err why) files
-      matches (Ok k) = let names = map (named false Cache) (ws.values (codes "CACHE")) in match_each explains (match_options ws) names (matched_keytab ws).name.now k first_state files names
+    let o = match_options ws in
+    let keytab = named false Keytab (ws.operand (codes "KEYTAB")) in
+    let names = map (named false Cache) (ws.values (codes "CACHE")) in
+    let none = none_error (sought o) names in
+    let last : MatchState → FileMap → Seen = λ s. if is_none_matched s then ends explains [] none.1 (Err none.0) else ends explains [] [] (Ok Well) in
+    let given = if keytab.is_other_type then Err (OtherType Keytab Word) else result_map_err (error_of_name Word) (whole_in o.v1_order (loaded (files keytab.name.now) most_bytes)) in
+    unless_fails explains keytab.name.now files (λ k. over explains (match_plan o keytab.name.now (nat_lt 1 (length names)) (k, explains)) state_after (λ s file. words_if explains (said_of k s file)) last first_state files names) given
 
 abbrev pub ktedit : Bool → FileMap → List ℕ → Matched → Seen
 ktedit explains files script ws =
-    follows_lines explains files (ktedit_plan (v1_order ws) (operand ws Keytab (codes "FILE"))) (lines_in event_in (Ok script))
+    unless_fails explains [] files (λ lines. follows explains files (ktedit_plan (v1_order ws) (operand ws Keytab (codes "FILE")) lines)) (lines_in event_in (Ok script))
 
 abbrev pub ccedit : Bool → FileMap → List ℕ → Matched → Seen
-ccedit explains files script ws = follows_lines explains files (ccedit_plan (operand ws Cache (codes "FILE"))) (lines_in cache_line_in (Ok script))
+ccedit explains files script ws =
+    unless_fails explains [] files (λ lines. follows explains files (ccedit_plan (operand ws Cache (codes "FILE")) lines)) (lines_in cache_line_in (Ok script))
 
 -- the files that are to be changed: one with an `@` may be meant as a principal
 abbrev changed : FileKind → Matched → List FileName
 changed kind ws = map {A = FileName} (λ file. record file { source = if list_any (nat_eq 64) file.name.now then LikePrincipal else Word }) (operands ws kind)
 
--- it is reported of each of these that there is no such file
-abbrev reports_missing : Bool → FileMap → List FileName → Seen
-reports_missing explains files [] = ends explains [] [] (Ok Well) files
-reports_missing explains files (file ∷ missing) = followed_by (ends explains [] file.name.now (Err (missing_error file)) files) (reports_missing explains files missing)
-
 -- what is asked for is removed from files, and at the end it is reported if it is in none; if some of several are missing that is reported alone
 abbrev removes : Bool → FileKind → (Bool → FileName → CommandPlan) → FileMap → Matched → Seen
-removes explains kind plan files ws = looked (filter (λ file. is_missing file (node_of (files file.name.now))) names) where
-  names : List FileName
-  names = changed kind ws
-
-  last : FilesSeen → FileMap → Seen
-  last seen files = if is_none seen then ends explains [] [] (Err (NothingSelected kind)) files else ends explains [] [] (Ok Well) files
-
-  looked : List FileName → Seen
-  looked missing =
-      let are_several = nat_lt 1 (length names) in
-      if are_several && nat_lt 0 (length missing) then reports_missing explains files missing
-      else over explains (λ seen. plan are_several) seen_after last seen.None files names
+removes explains kind plan files ws =
+    let names = changed kind ws in
+    let are_several = nat_lt 1 (length names) in
+    let missing = filter (λ file. is_missing file (node_of (files file.name.now))) names in
+    let last : FilesSeen → FileMap → Seen = λ seen. ends explains [] [] (if is_none seen then Err (NothingSelected kind) else Ok Well) in
+    if are_several && nat_lt 0 (length missing) then over_all explains (λ state file. Ends (Fails file.name.now (missing_error file))) (λ state end. state) (tt {0}) files missing
+    else over explains (λ seen. plan are_several) seen_after (λ seen file. []) last seen.None files names
 
 -- at a second, which is asked for with `--age` alone
 abbrev pub ktremove : Bool → ℕ → FileMap → Matched → Seen
@@ -342,27 +317,23 @@ hold_end (Fails file why) = Err (file, why)
 hold_end (Displays file page) = result_map_err (λ why. (file, why)) (result_map (λ verdict. Left) page.ending)
 hold_end (Saves file bytes out verdict) = Ok Saved
 
--- a run of hold with that effect on a file
-abbrev exchanges : Bool → FileMap → List ℕ → Effect → Seen
-exchanges explains files file effect =
-    let end = hold_end effect in
-    let run = ends explains (output effect) (about_end file end) (end_of_hold end) (files_after files effect) in
-    record run { out = run.out ++ last_line run.status None None end }
-
 -- with that input
 abbrev pub hold : Bool → FileMap → List ℕ → Matched → Seen
-hold explains files input ws = over_file (hold_kind ws) (operand ws (held_file_kind (hold_kind ws)) (codes "FILE")) where
-  over_file : HoldKind → FileName → Seen
-  over_file kind file =
-      exchanges explains files file.name.now (follow files (opens file (held_in kind file.in_place) (λ image. Ends (exchanged file.name.now image (received kind (loaded (Some input) most_frame))))))
+hold explains files input ws =
+    let kind = hold_kind ws in
+    let file = operand ws (held_file_kind kind) (codes "FILE") in
+    let effect = follow files (opens file (held_in kind file.in_place) (λ image. Ends (exchanged file.name.now image (received kind (loaded (Some input) most_frame))))) in
+    let end = hold_end effect in
+    let run = ends explains (output effect) (about_end file.name.now end) (end_of_hold end) (files_after files effect) in
+    record run { out = run.out ++ last_line run.status None None end }
 
 -- the lines of an input at a second, without prompts
 abbrev pub ktutil : Bool → ℕ → FileMap → List ℕ → Matched → Seen
-ktutil explains now files input ws = of_talk (talk_due quiet_run now 1 (lines_of input) (record { order = v1_order ws; entries = []; awaiting = Nothing }) files) where
-  of_talk : TalkDue → Seen
-  of_talk due = record {
-    out = due.out;
-    err = flat_map (λ r. ending_text explains r.file r.line no_details r.ending) due.reported;
-    status = fold (λ worst r. max worst (ending_status r.ending)) 0 due.reported;
-    files = due.files;
-  }
+ktutil explains now files input ws =
+    let due = talk_due quiet_run now 1 (lines_of input) (record { order = v1_order ws; entries = []; awaiting = Nothing }) files in
+    record {
+      out = due.out;
+      err = flat_map (λ r. ending_text explains r.file r.line no_details r.ending) due.reported;
+      status = fold (λ worst r. max worst (ending_status r.ending)) 0 due.reported;
+      files = due.files;
+    }

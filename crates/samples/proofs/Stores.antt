@@ -1,14 +1,12 @@
 -- What files of a few bytes do not show of keytabs and caches, and what the library alone does.
-use Rattle.samples.proofs.Cited.{◌≡◌, ℕ, List, [], ◌∷◌, ◌++◌, codes, replicate, map, Some, None, option_map, Ok, Err, true, false, pos, negsuc, refl, V2, Little, open_result, most_bytes, result_map_both, result_ok, start_reply, Started, Placed, Refused, create_result}
+use Rattle.samples.proofs.Cited.{refl, ◌≡◌, ℕ, List, [], ◌∷◌, ◌++◌, codes, replicate, map, Some, None, option_map, Ok, Err, true, false, pos, negsuc, most_bytes, open_result, V2, Little, result_map_both, result_ok, start_reply, Started, Placed, Refused, Gave, Ended, Gone, create_result, cache_image}
 use Rattle.krb_walk.specs.declared.event.Event.TheVariants.{Start, Resume, Step, Put, Cut}
 use Rattle.krb_walk.specs.declared.refusal.Code.TheVariants.{TooManyWalks, Marked, NotAPlace, NotLive}
-use Rattle.krb_walk.specs.ReplyContent.{Gave, Ended, Gone}
 use Rattle.krb_keytab.specs.declared.open.KtOpenFault.TheVariants.{TooLarge}
 use Rattle.krb_keytab.specs.Changes.{put_result, is_refused, takes_none}
 use Rattle.krb_keytab.specs.Entry.{EntryParts}
 use Rattle.krb_keytab.specs.Form.{fits}
 use Rattle.krb_ccache.specs.Config.{config_of}
-use Rattle.krb_ccache.specs.Header.{offset_in}
 use Rattle.krb_ccache.specs.Store.{image_of as cache_image}
 use Rattle.samples.proofs.Given.{hex, keytab, cache, name, cache_replies, host, front, ticket, pa_type, removed, worked}
 use Rattle.samples.proofs.Unfolded.{on_literals}
@@ -49,12 +47,6 @@ unfolding on_literals
 walks = (refl, refl)
 
 -- ---- caches
-
--- a field of tag 1 is the time offset, two signed numbers; other tags are passed over
-offset : offset_in (cache worked).header
-    ≡ Some (record { seconds = pos 5; micros = negsuc 9 })
-unfolding on_literals
-offset = refl
 
 -- a value is found by its key and its principal, and not by its key alone
 value : map (config_of (cache worked) (codes "pa_type")) (Some (codes "krbtgt/R@R") ∷ None ∷ [])
