@@ -1,5 +1,6 @@
 -- The action of a command line, and what it does.
-use Rattle.std.specs.Prelude.{unwrap_or, nat_eq, ◌≡◌, ℕ, List, [], ◌∷◌, codes, map, length, nat_lt, not, ◌==◌, is_some, Bool, true, false, if◌then◌else◌, Option, None, Some, Result, Ok, Err, string_bytes}
+use Rattle.std.specs.Prelude.{unwrap_or, nat_eq, ◌≡◌, ℕ, List, [], ◌∷◌, codes, map, length, nat_lt, slice_get, ◌==◌, is_some, Bool, true, false, if◌then◌else◌, Option, None, Some, Result, Ok, Err, string_bytes}
+use Rattle.std.specs.Bool.{then_some}
 use Rattle.std.specs.List.{list_any}
 use Rattle.krb_files.specs.declared.files.Files.{Ghosts}
 use Rattle.krb_audit.specs.Selection.{needs_clock}
@@ -39,17 +40,11 @@ use Rattle.krb_editors.specs.Selecting.{bad_criteria}
 use Rattle.krb_editors.specs.Removing.{RemovesWith}
 use Rattle.krb_editors.specs.Ktremove.{SpellsRemoval, ktremove_plan, needed_time, remove_mistake}
 use Rattle.krb_ktutil.specs.KtutilTalk.{RunsKtutil}
-use Rattle.krb_driver.specs.Mistakes.{Matched, first_value, v1_order, MistakeParts, word_status, word_text}
+use Rattle.krb_driver.specs.Mistakes.{Matched, v1_order, MistakeParts, word_status, word_text}
 use Rattle.krb_driver.specs.Runs.{Run, Writes, ends_by}
 use Rattle.krb_editors.specs.Sessions.{RunsScript}
 use Rattle.krb_keytab_text.specs.Script.{event_in}
 use Rattle.krb_cache_text.specs.Script.{cache_line_in}
-
--- a file is the one that a word names; no file if there is no word
-abbrev pub NamesFile : FileKind → Option (List ℕ) → Option FileName → Type 0
-NamesFile kind (Some word) (Some file) = IsNamed kind word Word file
-NamesFile kind None file = file ≡ None
-NamesFile kind (Some word) None = ⊥
 
 -- the parts of a file name, and those of the one that a word gives
 abbrev pub parts_of : FileName → FileKind × List ℕ × Bool × NameSource × Bool
@@ -66,88 +61,54 @@ word_parts kind with_at in_place word = (kind, bare_name kind word, is_other_typ
 abbrev pub AreNamed : FileKind → NameSource → Bool → List (List ℕ) → List FileName → Type 0
 AreNamed kind with_at in_place words names = map parts_of names ≡ map (word_parts kind with_at in_place) words
 
--- files are those that a line names, to be saved in place if the words ask for that
-abbrev pub AreFilesBy : NameSource → FileKind → Matched → List FileName → Type 0
-AreFilesBy with_at kind words names = AreNamed kind with_at (words.flag (codes "in-place")) (words.values (codes "FILE")) names
+-- files are those that the words of an operand name, to be saved in place if the words of the line ask for that
+abbrev pub AreFilesBy : NameSource → FileKind → Matched → List ℕ → List FileName → Type 0
+AreFilesBy with_at kind words operand names = AreNamed kind with_at (words.flag (codes "in-place")) (words.values operand) names
 
 abbrev pub AreFiles : FileKind → Matched → List FileName → Type 0
-AreFiles = AreFilesBy Word
+AreFiles kind words = AreFilesBy Word kind words (codes "FILE")
 
 -- and one with an `@` may be meant as a principal
 abbrev pub AreChanged : FileKind → Matched → List FileName → Type 0
-AreChanged = AreFilesBy LikePrincipal
-
--- the action is the overview, or the listing, that the words of klist ask for
-abbrev pub AsksOverview : Matched → Action → Type 0
-AsksOverview words (Overview json names) = (json ≡ words.flag (codes "json")) × AreFiles Cache words names.items
-AsksOverview words action = ⊥
-
-abbrev pub AsksListing : Matched → Action → Type 0
-AsksListing words (Klist options names) = (options ≡ list_options words) × AreFiles (file_kind options.kind) words names.items
-AsksListing words action = ⊥
-
--- or the check of a file's tickets
-abbrev pub AsksCheck : Matched → Action → Type 0
-AsksCheck words (CheckTicket check file) = (check ≡ check_of words) × NamesFile Cache (first_value words (codes "FILE")) file
-AsksCheck words action = ⊥
+AreChanged kind words = AreFilesBy LikePrincipal kind words (codes "FILE")
 
 -- the action is the one that the words of klist ask for: with `-l` an overview, with `-s` a check, otherwise a listing
-abbrev pub AsksBy : Bool → Bool → Matched → Action → Type 0
-AsksBy true silent = AsksOverview
-AsksBy false true = AsksCheck
-AsksBy false false = AsksListing
-
-abbrev pub AsksKlist : Matched → Action → Type 0
-AsksKlist words = AsksBy (words.flag (codes "list")) (words.flag (codes "silent")) words
-
--- the action is the one that the words of ktcheck ask for
-abbrev pub AsksKtcheck : Matched → Action → Type 0
-AsksKtcheck words (Ktcheck options names) = SpellsCheck words options × AreFiles Keytab words names.items
-AsksKtcheck words action = ⊥
-
--- the action is the one that the words of show ask for
-abbrev pub AsksShow : Matched → Action → Type 0
-AsksShow words (Show options names) = (options ≡ show_options words) × AreFiles Either words names.items
-AsksShow words action = ⊥
-
--- the action is the one that the words of ktmatch ask for
-abbrev pub AsksKtmatch : Matched → Action → Type 0
-AsksKtmatch words (Ktmatch options keytab names) = SpellsMatch words options × IsNamed Keytab (words.operand (codes "KEYTAB")) Word keytab × AreNamed Cache Word false (words.values (codes "CACHE")) names.items
-AsksKtmatch words action = ⊥
+abbrev pub AsksKlist : Bool → Bool → Matched → Action → Type 0
+AsksKlist true silent words (Overview json names) = (json ≡ words.flag (codes "json")) × AreFiles Cache words names.items
+AsksKlist false true words (CheckTicket check names) = (check ≡ check_of words) × AreFiles Cache words names.items
+AsksKlist false false words (Klist options names) = (options ≡ list_options words) × AreFiles (file_kind options.kind) words names.items
+AsksKlist list silent words action = ⊥
 
 -- a file is the keytab, or the cache, that the word of that operand names, and is to be saved in place if the words ask for that
 abbrev pub IsEdited : FileKind → Matched → List ℕ → FileName → Type 0
 IsEdited kind words operand file = IsNamed kind (words.operand operand) Word file × (file.in_place ≡ words.flag (codes "in-place"))
 
--- the action is the one that the words of hold ask for
-abbrev pub AsksHold : Matched → Action → Type 0
-AsksHold words (Hold kind file) = (kind ≡ hold_kind words) × IsEdited (held_kind kind) words (codes "FILE") file
-AsksHold words action = ⊥
-
 -- the action is the one that the words of the command ask for
 abbrev pub Asks : CommandName → Matched → Action → Type 0
-Asks name.Klist words action = AsksKlist words action
+Asks name.Klist words action = AsksKlist (words.flag (codes "list")) (words.flag (codes "silent")) words action
 Asks name.Ktedit words (Ktedit order file) = (order ≡ v1_order words) × IsEdited Keytab words (codes "FILE") file
 Asks name.Ktfind words (Ktfind options file) = SpellsEntry words options × IsNamed Keytab (words.operand (codes "FILE")) Word file
 Asks name.Ktremove words (Ktremove options names) = SpellsRemoval words options × AreChanged Keytab words names.items
 Asks name.Ktcopy words (Ktcopy options from to) = SpellsCopy words options × IsNamed Keytab (words.operand (codes "FROM")) Word from × IsEdited Keytab words (codes "TO") to
 Asks name.Ktdiff words (Ktdiff options ours others) = SpellsDiff words options × IsNamed Keytab (words.operand (codes "A")) Word ours × IsNamed Keytab (words.operand (codes "B")) Word others
-Asks name.Ktcheck words action = AsksKtcheck words action
-Asks name.Show words action = AsksShow words action
-Asks name.Ktmatch words action = AsksKtmatch words action
+Asks name.Ktcheck words (Ktcheck options names) = SpellsCheck words options × AreFiles Keytab words names.items
+Asks name.Show words (Show options names) = (options ≡ show_options words) × AreFiles Either words names.items
+Asks name.Ktmatch words (Ktmatch options keytab names) = SpellsMatch words options × IsNamed Keytab (words.operand (codes "KEYTAB")) Word keytab × AreFilesBy Word Cache words (codes "CACHE") names.items
 Asks name.Ccedit words (Ccedit file) = IsEdited Cache words (codes "FILE") file
 Asks name.Ccremove words (Ccremove options names) = SpellsTickets words options × AreChanged Cache words names.items
 Asks name.Ktutil words (Ktutil options) = (options.v1_order ≡ v1_order words) × (options.in_place ≡ words.flag (codes "in-place"))
-Asks name.Hold words action = AsksHold words action
+Asks name.Hold words (Hold kind file) = (kind ≡ hold_kind words) × IsEdited (held_kind kind) words (codes "FILE") file
 Asks command words action = ⊥
 
--- the first mistake in the words of klist
-abbrev pub klist_mistake : Matched → Option MistakeParts
-klist_mistake words = if words.flag (codes "list") then overview_mistake words else (if words.flag (codes "silent") then ticket_check_mistake words else list_mistake words)
+-- the first mistake in the words of klist, with `-l`, with `-s` or otherwise
+abbrev pub klist_mistake : Bool → Bool → Matched → Option MistakeParts
+klist_mistake true silent = overview_mistake
+klist_mistake false true = ticket_check_mistake
+klist_mistake false false = list_mistake
 
 -- the first mistake in the words of that command
 abbrev pub line_mistake : CommandName → Matched → Option MistakeParts
-line_mistake name.Klist words = klist_mistake words
+line_mistake name.Klist words = klist_mistake (words.flag (codes "list")) (words.flag (codes "silent")) words
 line_mistake name.Ktfind words = find_mistake words
 line_mistake name.Ktremove words = remove_mistake words
 line_mistake name.Ktcopy words = copy_mistake words
@@ -163,52 +124,41 @@ line_mistake command words = None
 abbrev pub nothing : Needs
 nothing = record { clock = false; plain = false; in_place = false; script = false; json = false; left_out = None }
 
--- a line that edits a file needs what its words say of saves, and perhaps a script
-abbrev pub edits : FileName → Bool → Needs
-edits file script = record nothing { script = script; in_place = file.in_place }
-
 -- several files are named: what is no plain file among them is then refused before it is opened
 abbrev pub are_several : List FileName → Bool
 are_several names = nat_lt 1 (length names)
 
--- a line that edits files without a script needs that of each, and perhaps the time
-abbrev pub edits_all : List FileName → Bool → Needs
-edits_all names clock = record nothing { clock = clock; plain = are_several names; in_place = list_any (λ file. file.in_place) names }
+-- a line that edits files needs what its words say of saves, and perhaps the time
+abbrev pub edits : List FileName → Bool → Needs
+edits names clock = record nothing { clock = clock; plain = are_several names; in_place = list_any (λ file. file.in_place) names }
 
--- a file of that kind, which that command's line leaves out
-abbrev pub left_out_of : FileKind → CommandName → LeftOut
-left_out_of kind command = record { default = kind; kind = kind; command = command }
+-- what a file is to be that a line of that command leaves out: of show either kind
+abbrev pub kind_by : CommandName → FileKind → FileKind
+kind_by name.Show default = Either
+kind_by command default = default
 
--- a file is left out, unless the line names one
-abbrev pub left_out : Bool → LeftOut → Option LeftOut
-left_out is_named file = if is_named then None else Some file
+-- what a line of that command needs that reads files, or else the default one
+abbrev pub reads : List FileName → FileKind → CommandName → Needs
+reads names default command = record nothing { plain = are_several names; left_out = then_some (length names == 0) (record { default = default; command = command }) }
 
--- what a line needs that reads files
-abbrev pub reads : List FileName → LeftOut → Needs
-reads names file = record nothing { plain = are_several names; left_out = left_out (not (length names == 0)) file }
-
--- what show needs
-abbrev pub shows : List FileName → FileKind → Needs
-shows names default = record (reads names (record { default = default; kind = Either; command = name.Show })) { clock = true }
-
--- what a line needs that asks for the valid tickets of plain caches
-abbrev pub surveys : Bool → Bool → Needs
-surveys is_named json = record nothing { clock = true; plain = true; json = json; left_out = left_out is_named (left_out_of Cache name.Klist) }
+-- what a line of klist needs that asks for the valid tickets of plain caches
+abbrev pub surveys : List FileName → Bool → Needs
+surveys names json = record (reads names Cache name.Klist) { clock = true; plain = true; json = json }
 
 -- what an action needs
 abbrev pub needs : Action → Needs
-needs (Klist options names) = record (reads names.items (left_out_of (file_kind options.kind) name.Klist)) { json = options.json }
-needs (Overview json names) = surveys (not (length names.items == 0)) json
-needs (CheckTicket check file) = surveys (is_some file) false
-needs (Ktcheck options names) = record (reads names.items (left_out_of Keytab name.Ktcheck)) { clock = is_some options.older; json = options.json }
-needs (Show options names) = shows names.items options.default
-needs (Ktmatch options keytab names) = record (reads names.items (left_out_of Cache name.Ktmatch)) { json = options.json }
-needs (Ktedit order file) = edits file true
-needs (Ccedit file) = edits file true
-needs (Ktremove options names) = edits_all names.items (needs_clock options.selection.kvno)
-needs (Ccremove options names) = edits_all names.items options.expired
-needs (Ktcopy options from to) = edits to false
-needs (Hold kind file) = edits file false
+needs (Klist options names) = record (reads names.items (file_kind options.kind) name.Klist) { json = options.json }
+needs (Overview json names) = surveys names.items json
+needs (CheckTicket check names) = surveys names.items false
+needs (Ktcheck options names) = record (reads names.items Keytab name.Ktcheck) { clock = is_some options.older; json = options.json }
+needs (Show options names) = record (reads names.items options.default name.Show) { clock = true }
+needs (Ktmatch options keytab names) = record (reads names.items Cache name.Ktmatch) { json = options.json }
+needs (Ktedit order file) = record (edits (file ∷ []) false) { script = true }
+needs (Ccedit file) = record (edits (file ∷ []) false) { script = true }
+needs (Ktremove options names) = edits names.items (needs_clock options.selection.kvno)
+needs (Ccremove options names) = edits names.items options.expired
+needs (Ktcopy options from to) = edits (to ∷ []) false
+needs (Hold kind file) = edits (file ∷ []) false
 needs (Ktutil options) = record nothing { clock = true; in_place = options.in_place }
 needs action = nothing
 
@@ -265,7 +215,7 @@ module _ {F R W E : Type 0} (trait : Ghosts F) (old new : World F R W E) (status
   abbrev pub EndsAction : Action → Type 0
   EndsAction (Klist options names) = RunsOn trait old new status (ListsAll trait options old new status) (files_or names.items default)
   EndsAction (Overview json names) = RunsOn trait old new status (SurveysAll trait json now old new status) (files_or names.items default)
-  EndsAction (CheckTicket check file) = ChecksTickets trait old new status check now (file_or file default)
+  EndsAction (CheckTicket check names) = ChecksTickets trait old new status check now (file_or (slice_get names.items 0) default)
   EndsAction (Ktfind options file) = Runs trait (always (ktfind_plan options file)) any old new status
   EndsAction (Ktedit order file) = RunsScript trait old new status (ktedit_plan order file) (ktedit_fairly order file) event_in
   EndsAction (Ktcheck options names) = RunsOn trait old new status (ChecksAll trait options now old new status) (files_or names.items default)

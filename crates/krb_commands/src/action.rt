@@ -1,20 +1,12 @@
 //! The actions of command lines.
 
-ghost use Rattle.std.specs.Prelude.{◌≡◌, codes, map, IfErr, IfOk, None, OnOk};
-ghost use Rattle.krb_commands.specs.Actions.{AreNamed, Asks, AsksHold, AsksKlist, AsksKtcheck, AsksKtmatch, AsksListing, AsksOverview, AsksShow, IsEdited, NamesFile, at_terminal, klist_mistake, line_mistake, source_of};
+ghost use Rattle.std.specs.Prelude.{◌≡◌, IfErr, IfOk, None, OnOk};
+ghost use Rattle.krb_commands.specs.Actions.{AreChanged, AreFiles, AreFilesBy, Asks, AsksKlist, IsEdited, at_terminal, klist_mistake, line_mistake, source_of};
 ghost use Rattle.krb_driver.specs.FileNames.{IsNamed};
 ghost use Rattle.krb_driver.specs.declared.file_name.NameSource.TheVariants.{Word};
-ghost use Rattle.krb_readers.specs.Ktcheck.{check_mistake};
-ghost use Rattle.krb_readers.specs.Klist.{list_mistake};
-ghost use Rattle.krb_readers.specs.Ktmatch.{match_mistake};
-ghost use Rattle.krb_readers.specs.Overview.{overview_mistake};
-ghost use Rattle.krb_readers.specs.Show.{show_mistake};
-ghost use Rattle.krb_editors.specs.Hold.{hold_mistake};
-ghost use Rattle.krb_driver.specs.Mistakes.{first_value, IsRefusal, Reads};
+ghost use Rattle.krb_driver.specs.Mistakes.{IsRefusal, Reads};
 
-use krb_driver::{
-    CommandName, FileKind, FileName, Matches, NameSource, WordFault, first_value, v1_order,
-};
+use krb_driver::{CommandName, FileKind, FileName, Matches, NameSource, WordFault, v1_order};
 use krb_editors::{
     CopyOptions, DiffOptions, HoldKind, RemoveOptions, TicketOptions, copy_options, diff_options,
     hold_kind, remove_options, ticket_options,
@@ -41,7 +33,7 @@ pub enum Action<'a> {
     Klist(KlistOptions, Vec<FileName<'a>>),
     /// As JSON or not.
     Overview(bool, Vec<FileName<'a>>),
-    CheckTicket(TicketCheck, Option<FileName<'a>>),
+    CheckTicket(TicketCheck, Vec<FileName<'a>>),
     Ktfind(FindOptions<Global>, FileName<'a>),
     /// With the byte order of version 1 keytabs.
     Ktedit(Order, FileName<'a>),
@@ -83,16 +75,6 @@ pub fn at_terminal<'a>(
     }
 }
 
-// Returns the file that a word names, if one does.
-fn file_named<'a, M: Matches<'a>>(matches: &M, kind: FileKind) -> Option<FileName<'a>>
-    ensures { NamesFile kind (first_value (M.matched matches.now) (codes "FILE")) result }
-{
-    match first_value(matches, "FILE") {
-        Some(word) => Some(FileName::of(kind, word, NameSource::Word)),
-        None => None,
-    }
-}
-
 // Returns the file that the word of an operand names.
 fn file_of<'a, M: Matches<'a>>(matches: &M, kind: FileKind, operand: &str) -> FileName<'a>
     ensures { IsNamed kind ((M.matched matches.now).operand operand.now) Word result }
@@ -118,40 +100,23 @@ fn source_of(with_at: NameSource, word: &str) -> NameSource
     }
 }
 
-// Returns the files that words name, to be saved in place or not.
-fn files_of<'a>(
+// Returns the files that the words of an operand name, to be saved in place if the words of the line ask for that.
+fn files_of<'a, M: Matches<'a>>(
     alloc: Global,
+    matches: &M,
     kind: FileKind,
+    operand: &str,
     with_at: NameSource,
-    in_place: bool,
-    words: &[&'a str],
 ) -> Result<Vec<FileName<'a>>, AllocError>
-    ensures { IfOk result (λ names. AreNamed kind with_at in_place (map (λ word. word.now) words.now) names.items) }
+    ensures { IfOk result (λ names. AreFilesBy with_at kind (M.matched matches.now) operand.now names.items) }
 {
+    let in_place = matches.flag("in-place");
+    let words = matches.values(operand);
     let mut names = Vec::new(alloc);
     'words: for word in words {
         names.push(FileName::of(kind, *word, source_of(with_at, *word)).saved(in_place))?;
     }
     Ok(names)
-}
-
-// Returns the files that a line names, to be saved in place if the words ask for that.
-fn files_named<'a, M: Matches<'a>>(
-    alloc: Global,
-    matches: &M,
-    kind: FileKind,
-    with_at: NameSource,
-) -> Result<Vec<FileName<'a>>, AllocError>
-    ensures { IfOk result (λ names. AreNamed kind with_at ((M.matched matches.now).flag (codes "in-place"))
-        ((M.matched matches.now).values (codes "FILE")) names.items) }
-{
-    files_of(
-        alloc,
-        kind,
-        with_at,
-        matches.flag("in-place"),
-        matches.values("FILE"),
-    )
 }
 
 // Returns the files that a line names which only looks at them.
@@ -160,90 +125,46 @@ fn files_to_read<'a, M: Matches<'a>>(
     matches: &M,
     kind: FileKind,
 ) -> Result<Vec<FileName<'a>>, AllocError>
-    ensures { IfOk result (λ names. AreNamed kind Word ((M.matched matches.now).flag (codes "in-place"))
-        ((M.matched matches.now).values (codes "FILE")) names.items) }
+    ensures { IfOk result (λ names. AreFiles kind (M.matched matches.now) names.items) }
 {
-    files_named(alloc, matches, kind, NameSource::Word)
+    files_of(alloc, matches, kind, "FILE", NameSource::Word)
 }
 
-// Returns the action for the words of `klist -l`.
-fn parsed_overview<'a, M: Matches<'a>>(
+// Returns the files that a line names which changes them.
+fn files_to_change<'a, M: Matches<'a>>(
     alloc: Global,
     matches: &M,
-) -> Result<Action<'a>, WordFault<'a>>
-    ensures { Reads (overview_mistake (M.matched matches.now)) (AsksOverview (M.matched matches.now)) result }
+    kind: FileKind,
+) -> Result<Vec<FileName<'a>>, AllocError>
+    ensures { IfOk result (λ names. AreChanged kind (M.matched matches.now) names.items) }
 {
-    let json = overview_json(matches)?;
-    Ok(Action::Overview(json, files_to_read(alloc, matches, FileKind::Cache)?))
-}
-
-// Returns the action for the words of a listing.
-fn parsed_listing<'a, M: Matches<'a>>(
-    alloc: Global,
-    matches: &M,
-) -> Result<Action<'a>, WordFault<'a>>
-    ensures { Reads (list_mistake (M.matched matches.now)) (AsksListing (M.matched matches.now)) result }
-{
-    let options = klist_options(matches)?;
-    let kind = options.kind.file_kind();
-    Ok(Action::Klist(options, files_to_read(alloc, matches, kind)?))
+    files_of(alloc, matches, kind, "FILE", NameSource::LikePrincipal)
 }
 
 // Returns the action for the words of klist: with `-l` an overview, with `-s` a check, otherwise a listing.
-fn parsed_klist<'a, M: Matches<'a>>(alloc: Global, matches: &M) -> Result<Action<'a>, WordFault<'a>>
-    ensures { Reads (klist_mistake (M.matched matches.now)) (AsksKlist (M.matched matches.now)) result }
+fn parsed_klist<'a, M: Matches<'a>>(
+    alloc: Global,
+    matches: &M,
+    lists: bool,
+    is_silent: bool,
+) -> Result<Action<'a>, WordFault<'a>>
+    ensures { Reads (klist_mistake lists is_silent (M.matched matches.now)) (AsksKlist lists is_silent (M.matched matches.now)) result }
 {
-    if matches.flag("list") {
-        parsed_overview(alloc, matches)
-    } else if matches.flag("silent") {
-        let check = ticket_check(matches)?;
-        Ok(Action::CheckTicket(check, file_named(matches, FileKind::Cache)))
-    } else {
-        parsed_listing(alloc, matches)
+    match (lists, is_silent) {
+        (true, _) => {
+            let json = overview_json(matches)?;
+            Ok(Action::Overview(json, files_to_read(alloc, matches, FileKind::Cache)?))
+        }
+        (false, true) => {
+            let check = ticket_check(matches)?;
+            Ok(Action::CheckTicket(check, files_to_read(alloc, matches, FileKind::Cache)?))
+        }
+        (false, false) => {
+            let options = klist_options(matches)?;
+            let kind = options.kind.file_kind();
+            Ok(Action::Klist(options, files_to_read(alloc, matches, kind)?))
+        }
     }
-}
-
-// Returns the action for the words of ktcheck.
-fn parsed_ktcheck<'a, M: Matches<'a>>(
-    alloc: Global,
-    matches: &M,
-) -> Result<Action<'a>, WordFault<'a>>
-    ensures { Reads (check_mistake (M.matched matches.now)) (AsksKtcheck (M.matched matches.now)) result }
-{
-    let options = check_options(alloc, matches)?;
-    let names = files_to_read(alloc, matches, FileKind::Keytab)?;
-    Ok(Action::Ktcheck(options, names))
-}
-
-// Returns the action for the words of show.
-fn parsed_show<'a, M: Matches<'a>>(alloc: Global, matches: &M) -> Result<Action<'a>, WordFault<'a>>
-    ensures { Reads (show_mistake (M.matched matches.now)) (AsksShow (M.matched matches.now)) result }
-{
-    let options = show_options(matches)?;
-    let names = files_to_read(alloc, matches, FileKind::Either)?;
-    Ok(Action::Show(options, names))
-}
-
-// Returns the action for the words of ktmatch.
-fn parsed_ktmatch<'a, M: Matches<'a>>(
-    alloc: Global,
-    matches: &M,
-) -> Result<Action<'a>, WordFault<'a>>
-    ensures { Reads (match_mistake (M.matched matches.now)) (AsksKtmatch (M.matched matches.now)) result }
-{
-    let options = match_options(alloc, matches)?;
-    let keytab = file_of(matches, FileKind::Keytab, "KEYTAB");
-    let caches = matches.values("CACHE");
-    let names = files_of(alloc, FileKind::Cache, NameSource::Word, false, caches)?;
-    Ok(Action::Ktmatch(options, keytab, names))
-}
-
-// Returns the action for the words of hold.
-fn parsed_hold<'a, M: Matches<'a>>(matches: &M) -> Result<Action<'a>, WordFault<'a>>
-    ensures { Reads (hold_mistake (M.matched matches.now)) (AsksHold (M.matched matches.now)) result }
-{
-    let kind = hold_kind(matches)?;
-    Ok(Action::Hold(kind, edited_file(matches, kind.file_kind(), "FILE")))
 }
 
 // Returns the action for the words of a command.
@@ -255,7 +176,9 @@ fn parsed<'a, M: Matches<'a>>(
     ensures { Reads (line_mistake command (M.matched matches.now)) (Asks command (M.matched matches.now)) result }
 {
     match command {
-        CommandName::Klist => parsed_klist(alloc, matches),
+        CommandName::Klist => {
+            parsed_klist(alloc, matches, matches.flag("list"), matches.flag("silent"))
+        }
         CommandName::Ktedit => {
             let file = edited_file(matches, FileKind::Keytab, "FILE");
             Ok(Action::Ktedit(v1_order(matches), file))
@@ -266,7 +189,7 @@ fn parsed<'a, M: Matches<'a>>(
         )),
         CommandName::Ktremove => Ok(Action::Ktremove(
             remove_options(alloc, matches)?,
-            files_named(alloc, matches, FileKind::Keytab, NameSource::LikePrincipal)?,
+            files_to_change(alloc, matches, FileKind::Keytab)?,
         )),
         CommandName::Ktcopy => Ok(Action::Ktcopy(
             copy_options(alloc, matches)?,
@@ -278,23 +201,33 @@ fn parsed<'a, M: Matches<'a>>(
             file_of(matches, FileKind::Keytab, "A"),
             file_of(matches, FileKind::Keytab, "B"),
         )),
-        CommandName::Ktcheck => parsed_ktcheck(alloc, matches),
-        CommandName::Show => parsed_show(alloc, matches),
-        CommandName::Ktmatch => parsed_ktmatch(alloc, matches),
-        CommandName::Ccedit => {
-            let file = edited_file(matches, FileKind::Cache, "FILE");
-            Ok(Action::Ccedit(file))
-        }
+        CommandName::Ktcheck => Ok(Action::Ktcheck(
+            check_options(alloc, matches)?,
+            files_to_read(alloc, matches, FileKind::Keytab)?,
+        )),
+        CommandName::Show => Ok(Action::Show(
+            show_options(matches)?,
+            files_to_read(alloc, matches, FileKind::Either)?,
+        )),
+        CommandName::Ktmatch => Ok(Action::Ktmatch(
+            match_options(alloc, matches)?,
+            file_of(matches, FileKind::Keytab, "KEYTAB"),
+            files_of(alloc, matches, FileKind::Cache, "CACHE", NameSource::Word)?,
+        )),
+        CommandName::Ccedit => Ok(Action::Ccedit(edited_file(matches, FileKind::Cache, "FILE"))),
         CommandName::Ccremove => Ok(Action::Ccremove(
             ticket_options(alloc, matches)?,
-            files_named(alloc, matches, FileKind::Cache, NameSource::LikePrincipal)?,
+            files_to_change(alloc, matches, FileKind::Cache)?,
         )),
         CommandName::Ktutil => Ok(Action::Ktutil(KtutilOptions {
             v1_order: v1_order(matches),
             in_place: matches.flag("in-place"),
             prompts: false,
         })),
-        CommandName::Hold => parsed_hold(matches),
+        CommandName::Hold => {
+            let kind = hold_kind(matches)?;
+            Ok(Action::Hold(kind, edited_file(matches, kind.file_kind(), "FILE")))
+        }
     }
 }
 

@@ -86,8 +86,9 @@ pub fn respond<A: Allocator + Copy, F: Files, R: Read, W: Write, E: Write>(
             Ok(names) => run_overview(alloc, *json, now, names, world),
             Err(fault) => report_word_fault(fault, &mut world.err),
         },
-        Ok(Action::CheckTicket(check, file)) => {
-            check_tickets(alloc, *check, now, file_or(*file, default), world)
+        Ok(Action::CheckTicket(check, names)) => {
+            let file = file_or(names.first().copied(), default);
+            check_tickets(alloc, *check, now, file, world)
         }
         Ok(Action::Ktfind(options, file)) => run_ktfind(alloc, options, *file, world),
         Ok(Action::Ktedit(v1_order, file)) => run_ktedit(alloc, *v1_order, *file, world),

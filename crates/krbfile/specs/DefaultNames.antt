@@ -7,7 +7,7 @@ use Rattle.std.specs.declared.env.VarError.{VarError}
 use Rattle.std.specs.declared.env.VarError.TheVariants as var
 use Rattle.std.specs.declared.io.Error.{Error}
 use Rattle.std.specs.declared.io.ErrorKind.TheVariants.{OutOfMemory}
-use Rattle.krb_commands.specs.Actions.{DefaultName}
+use Rattle.krb_commands.specs.Actions.{DefaultName, kind_by}
 use Rattle.krb_commands.specs.declared.needs.LeftOut.{LeftOut}
 use Rattle.krb_driver.specs.declared.command_line.mistake.WordFault.{WordFault}
 use Rattle.krb_driver.specs.declared.command_line.mistake.WordFault.TheVariants.{NoMemory}
@@ -46,7 +46,7 @@ parts_of found = (found.kind, found.source, result_map_both string_bytes (λ fau
 -- the name that the environment's answer gives for a command, or why it gives none; a variable that is not set or is empty leaves it to the default
 abbrev pub GivesName : LeftOut → List ℕ → Result (List ℕ) VarError → Option FoundName → Type 0
 GivesName file command (Ok []) found = found ≡ None
-GivesName file command (Ok (b ∷ bytes)) (Some found) = parts_of found ≡ (file.kind, (variable_of file.default).1, Ok (b ∷ bytes))
+GivesName file command (Ok (b ∷ bytes)) (Some found) = parts_of found ≡ (kind_by file.command file.default, (variable_of file.default).1, Ok (b ∷ bytes))
 GivesName file command (Err var.NotPresent) found = found ≡ None
 GivesName file command (Err var.NotUnicode) (Some found) = IsErrAnd found.text (IsRefusal command (Some (variable_not_text (variable_of file.default).0)))
 GivesName file command (Err var.OutOfMemory) (Some found) = found.text ≡ Err NoMemory

@@ -158,7 +158,7 @@ fn given_name(
         Err(VarError::OutOfMemory) => Err(WordFault::NoMemory),
     };
     Some(FoundName {
-        kind: file.kind,
+        kind: file.kind(),
         source,
         text,
     })
@@ -172,6 +172,6 @@ pub fn found_name<R: rt::Env + rt::Files + AllocGlobal>(
 ) -> FoundName {
     match given_name(file, command, env::var(rt, variable_of(file.default).0)) {
         Some(found) => found,
-        None => default_name(file.kind, command, default_text(rt, file.default)),
+        None => default_name(file.kind(), command, default_text(rt, file.default)),
     }
 }

@@ -1,6 +1,6 @@
 //! The command line, and its run.
 
-ghost use Rattle.std.specs.Prelude.{◌≡◌, ◌↔◌, ℕ, IsTrue, Option, Some, bytes_eq, codes};
+ghost use Rattle.std.specs.Prelude.{◌≡◌, ◌↔◌, ℕ, IsTrue, Option, Some};
 ghost use Rattle.krb_commands.specs.Actions.{DefaultName, EndsParsed};
 ghost use Rattle.krb_driver.specs.Mistakes.{IsOf, not_text};
 ghost use Rattle.krbfile.specs.Silence.{is_silent};
@@ -51,12 +51,6 @@ pub fn asks_to_explain<R: rt::Env>(rt: &R) -> bool {
 /// The most words that are looked at.
 const MOST: usize = 64;
 
-fn is_klist(word: &[u8]) -> bool
-    ensures { result ≡ bytes_eq word.now (codes "klist") }
-{
-    word == b"klist".as_slice()
-}
-
 // Returns whether a word is `--silent`, or a bundle of letters with `s` among them.
 fn is_silent(word: &[u8]) -> bool
     ensures { result ≡ is_silent word.now }
@@ -81,7 +75,7 @@ fn word_of<'a, R: rt::Env>(rt: &R, number: usize, word: &'a mut [u8; 16]) -> &'a
 /// Returns whether the words are those of `klist -s`.
 pub fn asks_for_silence<R: rt::Env>(rt: &R) -> bool {
     let first = if begins_with_explain(rt) { 2 } else { 1 };
-    is_klist(word_of(rt, first, &mut [0; 16]))
+    word_of(rt, first, &mut [0; 16]) == b"klist".as_slice()
         && (first + 1..MOST).any(|number| is_silent(word_of(rt, number, &mut [0; 16])))
 }
 
@@ -108,7 +102,7 @@ pub fn parsed<'a>(
     help: &'a mut String,
 ) -> Result<Action<'a>, WordFault<'a>> {
     match words {
-        Ok(words) => match parse_words(alloc, &COMMANDS.map(command_words), words, help)? {
+        Ok(words) => match parse_words(alloc, &COMMANDS, words, help)? {
             Request::Help(text) => Ok(Action::Help(text)),
             Request::Command(line, matched) => action_of(alloc, line.command, line.name, &matched),
         },
