@@ -11,7 +11,7 @@ IMPORTS = {source: names.split() for source, names in {
     "Rattle.std.proofs.Common": "refl", "Rattle.krb_ccache.specs.Config": "is_config",
     "Rattle.krb_ccache.specs.Credential": "TypedData", "Rattle.krb_ccache.specs.Header": "offset_in",
     "Rattle.krb_ccache.specs.Store": "PlacedCredential placed_credentials",
-    "Rattle.krb_ccache.specs.SetConfig": "SettingParts setting_events",
+    "Rattle.krb_ccache.specs.SetConfig": "setting_events",
     "Rattle.krb_ccache.specs.Ticket": "ticket_encryption",
     "Rattle.krb_ccache.specs.declared.ticket.TicketEncryption": "TicketEncryption",
     "Rattle.krb_text.specs.Calendar": "day_number day_text next_day time_text_of",

@@ -106,27 +106,22 @@ def addresses() -> Module:
 
 # What MIT's krb5_cc_set_config was given, in turn, to write lib-config-values: key, principal and value. It began with
 # a new cache of u@R.
-SETTINGS = ((b"k", None, b""), (b"sp", None, b"a b"), (b"nl", None, b"x\ny\x7f\xc3\xbc\\z"),
-            (b"long", None, b"v" * 200), (b"odd=key(x)", b"a/b@R", b"1"))
+SETTINGS = ((b"k", "None", b""), (b"sp", "None", b"a b"), (b"nl", "None", b"x\ny\x7f\xc3\xbc\\z"),
+            (b"long", "None", b"v" * 200), (b"odd=key(x)", 'Some (codes "a/b@R")', b"1"))
 NEW_CACHE = bytes.fromhex("05040000" "000000010000000100000001520000000175")
 
 SET = """-- the image after a configuration value is set in the cache of an image
-abbrev set : List ℕ → SettingParts → List ℕ
-set image setting = cache_left image (setting_events (cache image) setting)
+abbrev set : List ℕ → List ℕ → Option (List ℕ) → List ℕ → List ℕ
+set image key principal value =
+    cache_left image (setting_events (cache image) (record { key = key; principal = principal; value = value }))
 """
-
-
-def setting(key: bytes, principal: bytes | None, value: bytes) -> str:
-    """Returns a configuration value with its name."""
-    about = "None" if principal is None else f"Some ({text(principal)})"
-    return f"record {{ key = {text(key)}; principal = {about}; value = {text(value)} }}"
 
 
 def settings() -> str:
     """Returns the theorem of configuration values that are set one after the other."""
     image = bytes_of_digits(NEW_CACHE)
-    for words in SETTINGS:
-        image = f"set ({image}) ({setting(*words)})"
+    for key, principal, value in SETTINGS:
+        image = f"set ({image}) ({text(key)}) ({principal}) ({text(value)})"
     return theorem("MIT krb5_cc_set_config, of five values in turn, left the same bytes", "settings",
                    image, file_of("lib-config-values"))
 
