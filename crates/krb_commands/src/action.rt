@@ -3,6 +3,7 @@
 ghost use Rattle.std.specs.Prelude.{◌≡◌, IfErr, IfOk, None, OnOk};
 ghost use Rattle.krb_commands.specs.Actions.{AreChanged, AreFiles, AreFilesBy, Asks, AsksKlist, IsEdited, at_terminal, klist_mistake, line_mistake, source_of};
 ghost use Rattle.krb_driver.specs.FileNames.{IsNamed};
+ghost use Rattle.krb_driver.specs.declared.command_line.words.CommandName.TheVariants.{Hold, Ktcopy, Ktmatch, Ktutil};
 ghost use Rattle.krb_driver.specs.declared.file_name.NameSource.TheVariants.{Word};
 ghost use Rattle.krb_driver.specs.Mistakes.{IsRefusal, Reads};
 
@@ -167,6 +168,53 @@ fn parsed_klist<'a, M: Matches<'a>>(
     }
 }
 
+// Returns the action for the words of ktcopy.
+fn parsed_ktcopy<'a, M: Matches<'a>>(
+    alloc: Global,
+    matches: &M,
+) -> Result<Action<'a>, WordFault<'a>>
+    ensures { Reads (line_mistake Ktcopy (M.matched matches.now)) (Asks Ktcopy (M.matched matches.now)) result }
+{
+    Ok(Action::Ktcopy(
+        copy_options(alloc, matches)?,
+        file_of(matches, FileKind::Keytab, "FROM"),
+        edited_file(matches, FileKind::Keytab, "TO"),
+    ))
+}
+
+// Returns the action for the words of ktmatch.
+fn parsed_ktmatch<'a, M: Matches<'a>>(
+    alloc: Global,
+    matches: &M,
+) -> Result<Action<'a>, WordFault<'a>>
+    ensures { Reads (line_mistake Ktmatch (M.matched matches.now)) (Asks Ktmatch (M.matched matches.now)) result }
+{
+    Ok(Action::Ktmatch(
+        match_options(alloc, matches)?,
+        file_of(matches, FileKind::Keytab, "KEYTAB"),
+        files_of(alloc, matches, FileKind::Cache, "CACHE", NameSource::Word)?,
+    ))
+}
+
+// Returns the action for the words of hold.
+fn parsed_hold<'a, M: Matches<'a>>(matches: &M) -> Result<Action<'a>, WordFault<'a>>
+    ensures { Reads (line_mistake Hold (M.matched matches.now)) (Asks Hold (M.matched matches.now)) result }
+{
+    let kind = hold_kind(matches)?;
+    Ok(Action::Hold(kind, edited_file(matches, kind.file_kind(), "FILE")))
+}
+
+// Returns the action for the words of ktutil, which prompts for none.
+fn parsed_ktutil<'a, M: Matches<'a>>(matches: &M) -> Action<'a>
+    ensures { Asks Ktutil (M.matched matches.now) result }
+{
+    Action::Ktutil(KtutilOptions {
+        v1_order: v1_order(matches),
+        in_place: matches.flag("in-place"),
+        prompts: false,
+    })
+}
+
 // Returns the action for the words of a command.
 fn parsed<'a, M: Matches<'a>>(
     alloc: Global,
@@ -191,11 +239,7 @@ fn parsed<'a, M: Matches<'a>>(
             remove_options(alloc, matches)?,
             files_to_change(alloc, matches, FileKind::Keytab)?,
         )),
-        CommandName::Ktcopy => Ok(Action::Ktcopy(
-            copy_options(alloc, matches)?,
-            file_of(matches, FileKind::Keytab, "FROM"),
-            edited_file(matches, FileKind::Keytab, "TO"),
-        )),
+        CommandName::Ktcopy => parsed_ktcopy(alloc, matches),
         CommandName::Ktdiff => Ok(Action::Ktdiff(
             diff_options(alloc, matches)?,
             file_of(matches, FileKind::Keytab, "A"),
@@ -209,25 +253,14 @@ fn parsed<'a, M: Matches<'a>>(
             show_options(matches)?,
             files_to_read(alloc, matches, FileKind::Either)?,
         )),
-        CommandName::Ktmatch => Ok(Action::Ktmatch(
-            match_options(alloc, matches)?,
-            file_of(matches, FileKind::Keytab, "KEYTAB"),
-            files_of(alloc, matches, FileKind::Cache, "CACHE", NameSource::Word)?,
-        )),
+        CommandName::Ktmatch => parsed_ktmatch(alloc, matches),
         CommandName::Ccedit => Ok(Action::Ccedit(edited_file(matches, FileKind::Cache, "FILE"))),
         CommandName::Ccremove => Ok(Action::Ccremove(
             ticket_options(alloc, matches)?,
             files_to_change(alloc, matches, FileKind::Cache)?,
         )),
-        CommandName::Ktutil => Ok(Action::Ktutil(KtutilOptions {
-            v1_order: v1_order(matches),
-            in_place: matches.flag("in-place"),
-            prompts: false,
-        })),
-        CommandName::Hold => {
-            let kind = hold_kind(matches)?;
-            Ok(Action::Hold(kind, edited_file(matches, kind.file_kind(), "FILE")))
-        }
+        CommandName::Ktutil => Ok(parsed_ktutil(matches)),
+        CommandName::Hold => parsed_hold(matches),
     }
 }
 
