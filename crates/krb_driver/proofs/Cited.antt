@@ -31,4 +31,3 @@ pub use Rattle.krb_driver.specs.Several.{first_round, Round, RunsFile, RunsOver,
 pub use Rattle.krb_driver.specs.Mistakes.{ArePrintedNames, bad_name, first_mistake, AreSpelled, bad_etype, word_text, help_of, mistake_line, mistake_parts}
 pub use Rattle.krb_driver.specs.declared.command.RunEnd.{RunEnd}
 pub use Rattle.krb_findings.specs.declared.finding.TheConstants.{FINDINGS}
-pub use Rattle.krb_wire.specs.NameOf.{name_of, component_fault, realm_fault, first_fault, faults_of, realm_of, components_of, name_or_fault}

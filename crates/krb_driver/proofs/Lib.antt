@@ -1,5 +1,4 @@
 pub mod Cited
-pub mod Faults
 pub mod Shown
 pub mod Making
 pub mod Running

@@ -1,14 +1,17 @@
-use Rattle.krb_driver.proofs.Cited.{◌≡◌, Result, Ok, Err, None, refl, IsOk, name_of}
+use Rattle.krb_driver.proofs.Cited.{◌≡◌, ◌⊎◌, inl, inr, Result, Ok, Err, None, refl, IsOk}
 use Rattle.std.specs.Result.{result_err}
-use Rattle.krb_driver.proofs.Faults.{ran_out_at_a_name}
+use Rattle.krb_wire.specs.declared.name_fault.NameFault.{NameFault}
+use Rattle.krb_wire.specs.declared.name_fault.NameFault.TheVariants.{NoMemory}
+use Rattle.krb_text.proofs.NameFaults.{not_for_memory}
 use Rattle.krb_driver.proofs.command_line.spelled.spelled_name.Goals as goal
 
-no_error : {X E : Type 0} (x : Result X E) → IsOk x → result_err x ≡ None
-no_error (Ok x) ok = refl
-no_error (Err e) ok = absurd (cc ok)
+no_fault : {X : Type 0} (x : Result X NameFault) (fault : NameFault) → fault ≡ NoMemory → (x ≡ Err NoMemory → ⊥) → (x ≡ Err fault) ⊎ ((fault ≡ NoMemory) × IsOk x) → result_err x ≡ None
+no_fault (Ok x) fault is never h = refl
+no_fault (Err e) fault is never (inl given) = absurd (never (cc (is, given)))
+no_fault (Err e) fault is never (inr ok) = absurd (cc ok.1)
 
 -- a word that is a principal name has no mistake
 pub returns-in-Err-NoMemory : goal.returns-in-Err-NoMemory
 returns-in-Err-NoMemory c =
-    let named = ran_out_at_a_name c.args.word.now None c.in-Err-NoMemory.field-0 c.in-Err-NoMemory.field-0-is (rw c.as_bytes.ensures.value at c.in-Err-NoMemory.ensures.err) in
-    (rw (no_error (name_of c.args.word.now None) named) refl, tt)
+    let named = no_fault _ c.in-Err-NoMemory.field-0 c.in-Err-NoMemory.field-0-is (not_for_memory c.args.word.now None) (rw c.as_bytes.ensures.value at c.in-Err-NoMemory.ensures.err) in
+    (rw named refl, tt)
