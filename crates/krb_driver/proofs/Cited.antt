@@ -26,7 +26,7 @@ pub use Rattle.krb_driver.specs.declared.reporting.reported.Failure.{Failure}
 pub use Rattle.krb_driver.specs.declared.verdict.Verdict.{Verdict}
 pub use Rattle.krb_driver.specs.FileNames.{name_byte, stripped}
 pub use Rattle.krb_walk.specs.ReplyContent.{content_of, ReplyContent, Started, Gave, Ended, Faulted, Placed, Gone, Rewritten, Refused}
-pub use Rattle.krb_driver.specs.Reported.{with_reply, all_failures, failures, reports}
+pub use Rattle.krb_driver.specs.Reported.{failures}
 pub use Rattle.krb_driver.specs.Several.{first_round, Round, RunsFile, RunsOver, is_last}
 pub use Rattle.krb_driver.specs.Mistakes.{ArePrintedNames, bad_name, first_mistake, AreSpelled, bad_etype, word_text, help_of, mistake_line, mistake_parts}
 pub use Rattle.krb_driver.specs.declared.command.RunEnd.{RunEnd}

@@ -1,10 +1,7 @@
 -- The failures that replies report, and the verdict of a run that printed them.
-use Rattle.std.specs.Prelude.{ℕ, ◌==◌, List, [], ◌∷◌, ◌++◌, map, Bool, false, if◌then◌else◌, Option, None, Some, is_some, slice_set, ◌+◌, ◌-◌}
-use Rattle.std.specs.Bool.{then_some}
+use Rattle.std.specs.Prelude.{ℕ, List, fold, replicate, if◌then◌else◌, Option, None, Some, is_some, slice_set, ◌+◌, ◌-◌}
 use Rattle.std.specs.List.{list_any}
 use Rattle.std.specs.Option.{option_map_or}
-use Rattle.krb_walk.specs.declared.fault.FaultKind.TheVariants.{CutLength, Overrun, BadEntry, BadCredential}
-use Rattle.krb_walk.specs.declared.refusal.Code.TheVariants.{Damaged, TooLong, Full, NotAPlace, NotLive, NoSuchWalk, TooManyWalks, ReadOnly, NotFound, KvnoNotFound, Marked}
 use Rattle.krb_walk.specs.Phrases.{code_number, fault_number}
 use Rattle.krb_walk.specs.ReplyContent.{ReplyContent, Refused, Faulted}
 use Rattle.krb_driver.specs.declared.reporting.reported.Failure.{Failure}
@@ -24,23 +21,13 @@ abbrev pub place_of : Failure → ℕ
 place_of (failure.Refused code) = code_number code - 1
 place_of (failure.Faulted kind) = 10 + fault_number kind
 
--- a reply reports that failure
-abbrev pub reports : Failure → ReplyContent → Bool
-reports expected reply = option_map_or (λ reported. place_of reported == place_of expected) (failure_of reply) false
-
--- all failures, in that order
-abbrev pub all_failures : List Failure
-all_failures =
-    map failure.Refused (Damaged ∷ TooLong ∷ Full ∷ NotAPlace ∷ NotLive ∷ NoSuchWalk ∷ TooManyWalks ∷ ReadOnly ∷ NotFound ∷ KvnoNotFound ∷ Marked ∷ [])
-    ++ map failure.Faulted (CutLength ∷ Overrun ∷ BadEntry ∷ BadCredential ∷ [])
-
--- each failure, if some reply reports it
-abbrev pub failures : List ReplyContent → List (Option Failure)
-failures replies = map (λ expected. then_some (list_any (reports expected) replies) expected) all_failures
-
 -- what is reported, with one more reply
 abbrev pub with_reply : List (Option Failure) → ReplyContent → List (Option Failure)
 with_reply failures reply = option_map_or (λ f. slice_set failures (place_of f) (Some f)) (failure_of reply) failures
+
+-- what replies report: each failure at its place, once
+abbrev pub failures : List ReplyContent → List (Option Failure)
+failures replies = fold with_reply (replicate 15 None) replies
 
 -- the verdict of a run that printed these replies about a file of that kind
 abbrev pub replied_verdict : FileKind → List ReplyContent → Verdict
