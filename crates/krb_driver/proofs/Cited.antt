@@ -1,15 +1,15 @@
 -- The names that the proofs cite most, passed on from one place. Declares nothing.
-unfoldable pub use Rattle.krb_driver.specs.Loading.{writable_in, whole_or_empty, whole_in}
-pub use Rattle.std.proofs.Common.{◌∙◌, ◌≡◌, sym, List, ap, ℕ, take, arith, ◌++◌, refl, length, Bool, [], subst, ◌∷◌, ◌≤◌, ◌<◌, true, drop, false, inl, map, ◌+◌, Option, None, inr, ◌⊎◌, get_or, append-nil, Some, Ok, ◌-◌, Result, Bor, Err, append_assoc, eqb, length-drop, length-append, ◌≢◌, cond, add-one, ◌||◌, fold}
+unfoldable pub use Rattle.krb_driver.specs.Loading.{whole_or_empty, whole_in}
+pub use Rattle.std.proofs.Common.{◌∙◌, ◌≡◌, sym, List, ap, ℕ, take, arith, ◌++◌, refl, length, Bool, [], subst, ◌∷◌, ◌≤◌, ◌<◌, true, drop, false, inl, map, ◌+◌, Option, None, inr, ◌⊎◌, get_or, append-nil, Some, Ok, ◌-◌, Result, Bor, Err, append_assoc, eqb, length-drop, length-append, ◌≢◌, cond, add-one}
 pub use Rattle.std.proofs.lemmas.Bool.{true≢false, false≢true, le-leb, eqb-true, eq-eqb, or_left, or_right}
 pub use Rattle.std.proofs.lemmas.List.{take_all, length-map, drop_more, map-id, drop_all}
-pub use Rattle.std.specs.List.{flat_map, range_with_len, list_any, cons_option, list_all, filter_map}
-pub use Rattle.std.specs.Prelude.{option_map, codes, IsOk, IfOk, if◌then◌else◌, slice_get, unwrap_or, ◌==◌, ◌&&◌, MatchOption, IsFalse, IsTrue}
+pub use Rattle.std.specs.List.{flat_map, range_with_len, list_all}
+pub use Rattle.std.specs.Prelude.{option_map, codes, IsOk, IfOk, if◌then◌else◌, slice_get, ◌==◌, ◌&&◌, MatchOption, IsFalse, IsTrue}
 pub use Rattle.krb_driver.specs.Commands.{ready_end, made_effect, ShowsEnd, MakesFairly, Takes, FairOver, Settles, EndsCommand, Keeps, Opens, fair_first, ShowsPage, GivesOf, of_file, Finishes, Makes, HoldsIf, GivesLoaded, CommandPlan, Effect, IsSpent, faults, Fails, Page, opens, Saves, saved_end, settled, Displays, IsMade, text, files_after, goes_on, tries, EndsAfter, Tries, effect_by, if_unread, ending_of}
 pub use Rattle.krb_driver.specs.Runs.{ErrorWatch, Writes, Run, ends_by, Shows, ReportsEnd, Adds, Underway, Sends, words_if, aftermath_text}
 pub use Rattle.krb_driver.specs.Hints.{quoted_byte, etype_option, operand_text, is_alike}
 pub use Rattle.krb_driver.specs.Loading.{keytab_in, keytab_refusal, or_refused, unless_refused, fresh_in}
-pub use Rattle.krb_driver.specs.Messages.{piece_text, key_from, key_start, byte_text, pieces_text, hidden_word, may_be_key, quoted_word, pieces_before, shown_byte, has_key, message}
+pub use Rattle.krb_driver.specs.Messages.{piece_text, key_from, key_start, byte_text, hidden_word, may_be_key, quoted_word, shown_byte, has_key, message}
 pub use Rattle.krb_driver.specs.declared.verdict.FileKind.TheVariants.{Keytab}
 pub use Rattle.krb_files.specs.Bytes.{Watch, AppendsPrefix}
 pub use Rattle.krb_files.specs.declared.files.Files.{Ghosts}
@@ -20,14 +20,11 @@ pub use Rattle.krb_files.specs.Loading.{Answer, SavesFile, TurnsHold}
 pub use Rattle.krb_files.specs.Plan.{Ends, HeldIf, Holds, Loaded, Loads, Faults, by, follow}
 pub use Rattle.krb_files.proofs.PlanLaws.{loaded-none, Lasts, comes, count-more, count-trans, loaded-lasts, same-trans, with_bytes-set}
 pub use Rattle.krb_driver.specs.EndingWords.{ending_words, word_line, failure_words}
-pub use Rattle.krb_driver.specs.declared.verdict.Verdict.TheVariants.{Well, Replied}
+pub use Rattle.krb_driver.specs.declared.verdict.Verdict.TheVariants.{Well}
 pub use Rattle.krb_driver.specs.RunErrors.{Ending, aftermath_status, end_status, ending_status, is_spent, is_unread}
-pub use Rattle.krb_driver.specs.declared.reporting.reported.Failure.{Failure}
 pub use Rattle.krb_driver.specs.declared.verdict.Verdict.{Verdict}
 pub use Rattle.krb_driver.specs.FileNames.{name_byte, stripped}
-pub use Rattle.krb_walk.specs.ReplyContent.{content_of, ReplyContent, Started, Gave, Ended, Faulted, Placed, Gone, Rewritten, Refused}
-pub use Rattle.krb_driver.specs.Reported.{failures}
+pub use Rattle.krb_walk.specs.ReplyContent.{content_of}
 pub use Rattle.krb_driver.specs.Several.{first_round, Round, RunsFile, RunsOver, is_last}
-pub use Rattle.krb_driver.specs.Mistakes.{ArePrintedNames, bad_name, first_mistake, AreSpelled, bad_etype, word_text, help_of, mistake_line, mistake_parts}
+pub use Rattle.krb_driver.specs.Mistakes.{ArePrintedNames, bad_name, first_mistake, AreSpelled, bad_etype, word_text}
 pub use Rattle.krb_driver.specs.declared.command.RunEnd.{RunEnd}
-pub use Rattle.krb_findings.specs.declared.finding.TheConstants.{FINDINGS}

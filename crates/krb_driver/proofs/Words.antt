@@ -1,14 +1,9 @@
--- Words and their texts: without a prefix, before what may be a key, and in pieces.
-use Rattle.krb_driver.proofs.Cited.{◌≡◌, ℕ, Bool, false, List, [], ◌∷◌, ◌++◌, refl, sym, ap, subst, ◌∙◌, append_assoc, codes, Watch, ErrorWatch, Writes, piece_text, pieces_text, pieces_before, Bor, map, length-map, ◌≢◌, true, Option, None, Some, cond, drop, eqb, MatchOption, option_map, eqb-true, eq-eqb, ◌+◌, ◌-◌, ◌<◌, ◌≤◌, take, get_or, length, length-drop, arith, drop_more, drop_all, take_all, ◌==◌, ◌&&◌, if◌then◌else◌, flat_map, has_key, hidden_word, key_from, key_start, may_be_key, quoted_word, shown_byte, message, word_text, slice_get, stripped}
-use Rattle.krb_driver.specs.declared.reporting.piece.MessagePiece.{MessagePiece}
+-- Words and their texts: without a prefix, and before what may be a key.
+use Rattle.krb_driver.proofs.Cited.{◌≡◌, ℕ, Bool, false, List, [], ◌∷◌, ◌++◌, refl, sym, ap, subst, ◌∙◌, codes, Watch, ErrorWatch, Writes, Bor, map, length-map, ◌≢◌, true, Option, None, Some, cond, drop, eqb, MatchOption, option_map, eqb-true, eq-eqb, ◌+◌, ◌-◌, ◌<◌, ◌≤◌, take, get_or, length, length-drop, arith, drop_more, drop_all, take_all, ◌==◌, ◌&&◌, if◌then◌else◌, flat_map, has_key, hidden_word, key_from, key_start, may_be_key, quoted_word, shown_byte, message, word_text, slice_get, stripped}
 use Rattle.krb_driver.specs.declared.command_line.mistake.BadLine.{BadLine}
 use Rattle.krb_driver.specs.declared.command_line.mistake.WordFault.TheVariants as word
 use Rattle.std.proofs.lemmas.Option.{slice_get-map}
 use Rattle.std.specs.Str.Pattern.{FindsTextPrefix, StripsPrefix}
-
-pub pieces_text-append : (pieces : List MessagePiece) (rest : List ℕ) → pieces_text pieces ++ rest ≡ pieces_before pieces rest
-pieces_text-append [] rest = refl
-pieces_text-append (p ∷ ps) rest = append_assoc (piece_text p) (pieces_text ps) rest ∙ ap (λ l. piece_text p ++ l) (pieces_text-append ps rest)
 
 -- a bad command line is reported without words
 pub Writes-alone : (err : ErrorWatch) (to : Watch) (line : BadLine) → err.explains ≡ false → Writes err.to to (message (codes "bad command line") ++ []) → Writes err.to to (word_text err.explains (word.BadLine line))

@@ -103,8 +103,3 @@ piece_text (Escaped word) = escaped_text (word_text word)
 -- pieces one after the other
 abbrev pub pieces_text : List MessagePiece → List ℕ
 pieces_text pieces = flat_map piece_text pieces
-
--- pieces one after the other, and a text after them
-abbrev pub pieces_before : List MessagePiece → List ℕ → List ℕ
-pieces_before [] rest = rest
-pieces_before (piece ∷ others) rest = piece_text piece ++ pieces_before others rest

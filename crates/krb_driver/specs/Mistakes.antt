@@ -39,10 +39,10 @@ parts_of (phrase.Quoted between) word other = Quoted word between.now other
 abbrev pub mistake_parts : Mistake → MistakeParts
 mistake_parts m = parts_of m.phrase m.word.now m.other.now
 
--- what is wrong, and the rest of its line
-abbrev pub mistake_line : MistakeParts → List ℕ → List ℕ
-mistake_line (Shown before word between other after) rest = before ++ (shown_word word ++ (between ++ (shown_word other ++ (after ++ rest))))
-mistake_line (Quoted word between other) rest = quoted_word word ++ (between ++ (shown_word other ++ rest))
+-- what is wrong, in words
+abbrev pub mistake_line : MistakeParts → List ℕ
+mistake_line (Shown before word between other after) = before ++ (shown_word word ++ (between ++ (shown_word other ++ after)))
+mistake_line (Quoted word between other) = quoted_word word ++ (between ++ shown_word other)
 
 -- each mistake there is
 abbrev pub without_command : MistakeParts
@@ -124,7 +124,7 @@ more_words (more.Help text) = text.now
 
 -- the line of a mistake, with the reference to the help, and what follows
 abbrev pub mistake_words : Mistake → Option (List ℕ) → More → List ℕ
-mistake_words what command more = codes "krbfile: " ++ mistake_line (mistake_parts what) (help_of command ++ more_words more)
+mistake_words what command more = codes "krbfile: " ++ (mistake_line (mistake_parts what) ++ (help_of command ++ more_words more))
 
 -- the message for words that were not read, with or without the words that explain it
 abbrev pub word_text : Bool → WordFault → List ℕ

@@ -2,6 +2,7 @@
 
 ghost use Rattle.std.specs.Prelude.{◌≡◌, ◌<◌, ◌++◌, codes};
 ghost use Rattle.std.specs.List.{flat_map, range_with_len};
+ghost use Rattle.krb_findings.specs.Table.{has};
 ghost use Rattle.krb_driver.specs.Hints.{etype_option, etype_word, hint_words, hints_for, order_flag, remove_command, weak_hint};
 ghost use Rattle.krb_driver.specs.Messages.{line_if, piece_text, pieces_text};
 ghost use Rattle.krb_driver.specs.Runs.{Adds};
@@ -64,30 +65,29 @@ fn order_flag(order: Order) -> &'static str
     }
 }
 
-// Returns a hint: its head, up to the command's name, the flag of the check, and what comes before and after the operand.
+// Returns a hint if its word is explained, else nothing: its head, up to the command's name, the flag of the check, and
+// what comes before and after the operand.
 fn hint<'a>(
+    findings: &Findings,
+    word: Finding,
     head: &'static str,
-    order: Order,
     options: &'static str,
     operand: &'a [u8],
     tail: &'static str,
 ) -> Hint<'a>
-    ensures { pieces_text result ≡ head.now ++ (order_flag order ++ (options.now ++ (operand.now ++ tail.now))) }
+    ensures { pieces_text result ≡ line_if (has findings.now.words word)
+        (head.now ++ (order_flag findings.now.v1_order ++ (options.now ++ (operand.now ++ tail.now)))) }
 {
+    if !findings.words.has(word) {
+        return [NONE; 5];
+    }
     [
         Text(head),
-        Text(order_flag(order)),
+        Text(order_flag(findings.v1_order)),
         Text(options),
         MessagePiece::Operand(operand),
         Text(tail),
     ]
-}
-
-// Returns a hint if its word was explained, else nothing.
-fn hint_if<'a>(is_explained: bool, hint: Hint<'a>) -> Hint<'a>
-    ensures { pieces_text result ≡ line_if is_explained (pieces_text hint.entry) }
-{
-    if is_explained { hint } else { [NONE; 5] }
 }
 
 // Returns the dry run of ktremove, up to its options.
@@ -130,20 +130,12 @@ fn add_hints_for<E: Write>(
 )
     ensures { Adds err.old gathered.old.items err.new gathered.new.items (hints_for findings.now operand.now) }
 {
-    let order = findings.v1_order;
-    let old = hint(TO_REMOVE, order, " -n -k old --age 86400 ", operand, "\n");
-    let same = hint(TO_COPY, order, " ", operand, " NEW\n");
-    add_pieces(
-        &hint_if(findings.words.has(Finding::Old), old),
-        gathered,
-        err,
-    );
+    let before = " -n -k old --age 86400 ";
+    let old = hint(findings, Finding::Old, TO_REMOVE, before, operand, "\n");
+    let same = hint(findings, Finding::Same, TO_COPY, " ", operand, " NEW\n");
+    add_pieces(&old, gathered, err);
     add_weak_hint(findings, operand, gathered, err);
-    add_pieces(
-        &hint_if(findings.words.has(Finding::Same), same),
-        gathered,
-        err,
-    );
+    add_pieces(&same, gathered, err);
 }
 
 /// Adds the hints for findings about a file, unless its name is too long for them, or shells read it in more than one way.

@@ -1,7 +1,7 @@
 //! The messages for a command line that was not read.
 
-ghost use Rattle.std.specs.Prelude.{◌≡◌, ℕ, List, [], ◌++◌, codes, option_map};
-ghost use Rattle.krb_driver.specs.Messages.{message, pieces_before, pieces_text};
+ghost use Rattle.std.specs.Prelude.{◌≡◌, ◌++◌, codes, option_map};
+ghost use Rattle.krb_driver.specs.Messages.{message, pieces_text};
 ghost use Rattle.krb_driver.specs.Mistakes.{help_of, mistake_head, mistake_line, mistake_parts, mistake_words, more_words, word_status, word_text};
 ghost use Rattle.krb_driver.specs.Runs.{Writes};
 
@@ -9,7 +9,7 @@ use crate::command_line::mistake::{BadLine, Mistake, More, Phrase, WordFault};
 use crate::reporting::ErrorOutput;
 use crate::reporting::piece::MessagePiece::{self, Quoted, Text, Word};
 use crate::reporting::piece::NONE;
-use crate::reporting::writing::{add, add_pieces, send};
+use crate::reporting::writing::{add_pieces, send, write_pieces};
 use arrayvec::ArrayVec;
 use krb_files::Watched;
 use std::io::Write;
@@ -21,8 +21,7 @@ type Line<'a> = [MessagePiece<'a>; 6];
 
 // Returns the message for a mistake.
 fn mistake_pieces(mistake: Mistake<'_>) -> Line<'_>
-    ensures { (rest : List ℕ) → pieces_before result rest
-        ≡ mistake_head ++ mistake_line (mistake_parts mistake.entry) rest }
+    ensures { pieces_text result ≡ mistake_head ++ mistake_line (mistake_parts mistake.entry) }
 {
     let (word, other) = (mistake.word, Word(mistake.other));
     match mistake.phrase {
@@ -74,15 +73,6 @@ fn report_mistake<E: Write>(line: BadLine<'_>, err: &mut Watched<E>)
     send(&gathered, err);
 }
 
-// Writes a message without words.
-fn report_text<E: Write>(text: &'static [u8], err: &mut Watched<E>)
-    ensures { Writes err.old err.new (text.now ++ []) }
-{
-    let mut gathered = ArrayVec::new();
-    add(text, &mut gathered, err);
-    send(&gathered, err);
-}
-
 /// Reports on `err` why words were not read, and returns the exit status. Ignores a failure of `err`.
 pub fn report_word_fault<E: Write>(fault: WordFault<'_>, err: &mut ErrorOutput<E>) -> u8
     ensures writes { Writes err.old.to err.new.to (word_text err.old.explains fault.entry) }
@@ -91,7 +81,7 @@ pub fn report_word_fault<E: Write>(fault: WordFault<'_>, err: &mut ErrorOutput<E
 {
     match fault {
         WordFault::NoMemory => {
-            report_text(b"krbfile: out of memory\n", &mut err.to);
+            write_pieces(&[Text("krbfile: out of memory\n")], &mut err.to);
             return 4;
         }
         WordFault::BadLine(line) => {
@@ -101,6 +91,6 @@ pub fn report_word_fault<E: Write>(fault: WordFault<'_>, err: &mut ErrorOutput<E
             }
         }
     }
-    report_text(b"krbfile: bad command line\n", &mut err.to);
+    write_pieces(&[Text("krbfile: bad command line\n")], &mut err.to);
     2
 }

@@ -1,15 +1,7 @@
-use Rattle.krb_driver.proofs.ForAnswers.{arith, ◌<◌, ◌≤◌, length, take_all, failure_words, Adds-none, Adds-piece}
+use Rattle.krb_driver.proofs.ForAnswers.{arith, ◌<◌, length, failure_words, Adds-piece}
 use Rattle.krb_driver.proofs.reporting.ending_words.add_failures.Goals as goal
-
-pub failures-init : goal.failures-init
-failures-init g c = Adds-none _ _
 
 pub failures-preserved : goal.failures-preserved
 failures-preserved g c =
     let below : c.failures.failure-index < length c.args.failures.now = omega arith in
     Adds-piece (failure_words c.args.kind) c.args.failures.now c.failures.failure-index _ _ _ _ _ _ _ below c.failures.invariant (rw c.failure_line.ensures at c.add_pieces.ensures)
-
-pub returns : goal.returns
-returns g c =
-    let past : length c.args.failures.now ≤ c.failures.failure-index = omega arith in
-    rw (take_all _ c.args.failures.now past) at c.failures.invariant
