@@ -4,33 +4,33 @@ pub use Rattle.std.proofs.lemmas.List.{append-nil, take_more, take_all, drop_mor
 pub use Rattle.std.proofs.lemmas.Result.{err_from_is_err_and}
 pub use Rattle.std.specs.List.{list_any, flat_map}
 pub use Rattle.std.specs.Prelude.{Err, Ok, Result, nat_lt, unwrap_or, ◌||◌}
-pub use Rattle.krb_editors.specs.Sessions.{HaveSame, followed_over, carry_by, followed_past, places_after, new_session, replied, left, is_change, may_change, added, session_effect, RunsFairly, moments, lines_in}
+pub use Rattle.krb_editors.specs.Sessions.{HaveSame, followed_over, carry_by, followed_past, places_after, new_session, replied, left, may_change, added, session_effect, RunsFairly, lines_in}
 pub use Rattle.krb_editors.specs.Ccedit.{cache_session, lines_events, is_refusal, line_events}
 pub use Rattle.krb_editors.specs.Hold.{held_in, LoadsImage, frame}
 pub use Rattle.krb_ccache.specs.Rewrite.{cache_rules}
 pub use Rattle.krb_ccache.specs.Store.{CacheState, image_of, PlacedCredential, placed_credentials}
 pub use Rattle.krb_driver.proofs.Making.{makes-fairly, fairly-failed, fairly-holds, makes-end}
-pub use Rattle.krb_driver.specs.Commands.{fair_first, of_file, GivesOf, Makes, text_effect, Fails, Effect, IsSpent, opens, can_hold, Displays, text, CommandPlan, Saves, faults, saves_unless}
+pub use Rattle.krb_driver.specs.Commands.{fair_first, of_file, GivesOf, Makes, text_effect, Fails, Effect, IsSpent, opens, can_hold, Displays, text, CommandPlan, faults, saves_unless}
 pub use Rattle.krb_driver.specs.declared.error.RunError.{RunError}
 pub use Rattle.krb_files.specs.Plan.{Ends}
 pub use Rattle.krb_keytab.specs.Store.{KeytabState}
-pub use Rattle.krb_keytab_text.specs.Reply.{reply_texts_by, reply_text_by, record_tail, format_after_by}
+pub use Rattle.krb_keytab_text.specs.Reply.{reply_texts_by, record_tail}
 pub use Rattle.krb_walk.proofs.Runs.{ran_none, ran_of}
-pub use Rattle.krb_walk.specs.Events.{SessionState, reply_to, session_of, after, put_reply, cut_store, step_reply, end_reply, put_store, rewrite_reply, stop_reply, store_after, cut_reply}
+pub use Rattle.krb_walk.specs.Events.{SessionState, reply_to, session_of, after, put_reply}
 pub use Rattle.krb_walk.specs.History.{history, state_after, replies, moment, AllLawful}
 pub use Rattle.krb_walk.specs.Ran.{Ran}
 pub use Rattle.krb_walk.specs.Ranks.{live_places, nth_or, carry}
 pub use Rattle.krb_walk.specs.ReplyContent.{content_of, ReplyContent, Refused, Started, Placed, Rewritten, Gave, Ended, Faulted, Gone}
 pub use Rattle.krb_walk.specs.Rules.{Rules}
-pub use Rattle.krb_walk.specs.Store.{end_of, is_place, Store, Record, next_live, stop_of, IsSound, stop_at, fault_of, live_bytes}
+pub use Rattle.krb_walk.specs.Store.{end_of, is_place, Store, Record, next_live, stop_of, IsSound, stop_at}
 pub use Rattle.krb_walk.specs.declared.event.Event.{Event}
 pub use Rattle.krb_driver.specs.Loading.{keytab_or_empty, cache_of, result_map_err}
 pub use Rattle.krb_files.specs.declared.files.Files.{Ghosts}
 pub use Rattle.krb_driver.specs.declared.file_name.FileName.{FileName}
 pub use Rattle.krb_driver.specs.declared.error.RunError.TheVariants.{NothingToCopy, NoMemory}
-pub use Rattle.krb_walk.specs.declared.event.Event.TheVariants.{Put, Cut, Start, Resume, Step, Rewrite}
+pub use Rattle.krb_walk.specs.declared.event.Event.TheVariants.{Put, Cut}
 pub use Rattle.krb_walk.specs.declared.refusal.Code.{Code}
-pub use Rattle.krb_ccache.specs.Credential.{CredParts, is_marked}
+pub use Rattle.krb_ccache.specs.Credential.{CredParts}
 pub use Rattle.krb_editors.specs.MissingFiles.{LooksAt, LooksFor}
 pub use Rattle.krb_ccache.specs.declared.version.Version.TheVariants.{V4}
 pub use Rattle.krb_driver.specs.declared.verdict.FileKind.TheVariants.{Cache, Keytab}
@@ -38,9 +38,9 @@ pub use Rattle.krb_wire.specs.declared.format.KtFormat.TheVariants.{V2}
 pub use Rattle.krb_keytab.specs.Rewrite.{keytab_rules}
 pub use Rattle.krb_audit.specs.Findings.{hides_added, hidden_at, hidden_from}
 pub use Rattle.krb_text.proofs.Found.{any_of_map}
-pub use Rattle.krb_driver.specs.RunErrors.{hiding, line_error, script_error}
+pub use Rattle.krb_driver.specs.RunErrors.{line_error, script_error}
 pub use Rattle.krb_walk.specs.Stops.{records_from}
 pub use Rattle.krb_walk.proofs.Stops.{stops_end, stops_give_records, walks_begin_with_all}
 pub use Rattle.std.specs.List.Sorted.{IsNonDecreasing}
 pub use Rattle.krb_walk.proofs.Carries.{Rises, places_rise}
-pub use Rattle.std.proofs.lemmas.Bool.{eq-eqb, eqb-true, cond_both}
+pub use Rattle.std.proofs.lemmas.Bool.{eq-eqb, eqb-true}

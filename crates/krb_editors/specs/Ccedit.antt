@@ -5,6 +5,7 @@ use Rattle.krb_walk.specs.declared.event.Event.{Event}
 use Rattle.krb_walk.specs.ReplyContent.{ReplyContent, Refused}
 use Rattle.krb_walk.specs.Events.{SessionState, session_of}
 use Rattle.krb_walk.specs.History.{state_after}
+use Rattle.krb_ccache.specs.declared.version.Version.TheVariants.{V4}
 use Rattle.krb_ccache.specs.Credential.{CredParts}
 use Rattle.krb_ccache.specs.Rewrite.{cache_rules}
 use Rattle.krb_ccache.specs.SetConfig.{setting_events}
@@ -13,7 +14,8 @@ use Rattle.krb_ccache.specs.Store.{CacheState, image_of}
 use Rattle.krb_files.specs.Loading.{Answer}
 use Rattle.krb_files.specs.Plan.{Ends}
 use Rattle.krb_cache_text.specs.declared.request.Request.TheVariants as request
-use Rattle.krb_cache_text.specs.Reply.{cache_reply_text}
+use Rattle.krb_keytab_text.specs.Reply.{reply_texts_by}
+use Rattle.krb_cache_text.specs.Reply.{cache_record_tail}
 use Rattle.krb_cache_text.specs.Script.{CacheLineParts}
 use Rattle.krb_driver.specs.declared.file_name.FileName.{FileName}
 use Rattle.krb_driver.specs.declared.verdict.FileKind.TheVariants.{Cache}
@@ -50,9 +52,9 @@ lines_events s (line ∷ lines) = line_events s line ++ lines_events (state_afte
 abbrev pub cache_events : List CacheLineParts → CacheState → List (Event CredParts)
 cache_events lines cache = lines_events (session.new_session cache) lines
 
--- what lines over the cache of a file save and print: the cache is saved if they changed it
+-- what lines over the cache of a file save and print: the cache is saved if they changed it; records are printed in its version, which a rewrite makes version 4
 abbrev pub edits : List CacheLineParts → List ℕ → CacheState → Effect
-edits lines file cache = session.session_effect Cache cache_rules image_of (λ k. cache_reply_text k.version) None file cache (cache_events lines cache)
+edits lines file cache = session.session_effect Cache cache_rules image_of (reply_texts_by cache_record_tail V4 cache.version) None file cache (cache_events lines cache)
 
 -- lines were run over a cache: every walk is given what is due to it
 abbrev pub RunsFairly : List CacheLineParts → CacheState → Type 0

@@ -1,6 +1,7 @@
 -- What ktedit does.
 use Rattle.std.specs.Prelude.{ℕ, List, Option}
 use Rattle.std.specs.List.{list_any}
+use Rattle.krb_wire.specs.declared.format.KtFormat.TheVariants.{V2}
 use Rattle.krb_wire.specs.declared.format.Order.{Order}
 use Rattle.krb_walk.specs.declared.event.Event.{Event}
 use Rattle.krb_keytab.specs.Entry.{EntryParts}
@@ -8,7 +9,7 @@ use Rattle.krb_keytab.specs.Rewrite.{keytab_rules}
 use Rattle.krb_keytab.specs.Store.{KeytabState, image_of}
 use Rattle.krb_files.specs.Loading.{Answer}
 use Rattle.krb_files.specs.Plan.{Ends}
-use Rattle.krb_keytab_text.specs.Reply.{reply_text}
+use Rattle.krb_keytab_text.specs.Reply.{record_tail, reply_texts_by}
 use Rattle.krb_audit.specs.Findings.{hides_added}
 use Rattle.krb_driver.specs.declared.file_name.FileName.{FileName}
 use Rattle.krb_driver.specs.declared.verdict.FileKind.TheVariants.{Keytab}
@@ -21,9 +22,9 @@ use Rattle.krb_editors.specs.Sessions.{may_change}
 abbrev pub hidden : List (Event EntryParts) → KeytabState → Option ℕ
 hidden events keytab = hides_added (session.left keytab_rules keytab events) (session.added keytab_rules keytab events)
 
--- what events over the keytab of a file save and print: the keytab is saved if they changed it
+-- what events over the keytab of a file save and print: the keytab is saved if they changed it; records are printed in its format, which a rewrite makes version 2
 abbrev pub edits : List (Event EntryParts) → List ℕ → KeytabState → Effect
-edits events file keytab = session.session_effect Keytab keytab_rules image_of (λ k. reply_text k.format) (hidden events keytab) file keytab events
+edits events file keytab = session.session_effect Keytab keytab_rules image_of (reply_texts_by record_tail V2 keytab.format) (hidden events keytab) file keytab events
 
 -- events were run over a keytab: every walk is given what is due to it
 abbrev pub RunsFairly : List (Event EntryParts) → KeytabState → Type 0

@@ -1,5 +1,5 @@
 -- What ktremove does.
-use Rattle.std.specs.Prelude.{◌≡◌, ℕ, Bool, true, false, not, List, [], ◌++◌, ◌&&◌, ◌||◌, map, nat_lt, length, ◌==◌, if◌then◌else◌, codes, Option, None, Some, ok_or, option_and_then, Result, Ok, Err}
+use Rattle.std.specs.Prelude.{◌≡◌, ℕ, Bool, true, false, not, List, [], ◌++◌, ◌&&◌, ◌||◌, map, nat_lt, length, ◌==◌, if◌then◌else◌, codes, Option, None, Some, ok_or, option_and_then, Result, Ok}
 use Rattle.std.specs.List.{flat_map, list_any}
 use Rattle.std.specs.Option.{option_or}
 use Rattle.std.specs.Str.{bytes_eq}

@@ -1,6 +1,6 @@
 -- What a session does to a store, what is saved and printed after it, and what a script asks for.
 use Rattle.std.specs.Prelude.{◌≡◌, ℕ, Bool, true, false, List, [], ◌∷◌, ◌==◌, nat_lt, not, length, filter, map, if◌then◌else◌, Option, ◌⊎◌, Result, Ok, Err}
-use Rattle.std.specs.List.{list_any, flat_map}
+use Rattle.std.specs.List.{list_any}
 use Rattle.krb_walk.specs.declared.event.Event.{Event}
 use Rattle.krb_walk.specs.declared.event.Event.TheVariants.{Rewrite}
 use Rattle.krb_walk.specs.History.{Moment, history, replies, state_after}
@@ -101,14 +101,11 @@ module _ {S I : Type 0} (rules : Rules S I) (store : S) (events : List (Event I)
   abbrev pub RunsFairly : Type 0
   RunsFairly = Ran rules (new_session store) (state_after rules (new_session store) events) events [] (replies moments)
 
-module _ {S I : Type 0} (kind : FileKind) (rules : Rules S I) (image : S → List ℕ) (line : S → ReplyContent → List ℕ) (hidden : Option ℕ) (file : List ℕ) (store : S) (events : List (Event I)) where
-  -- the lines of the replies, each by the store just before its event
-  abbrev pub reply_lines : List ℕ
-  reply_lines = flat_map (λ m. line m.before.store m.reply) (moments rules store events)
-
-  -- what a session saves and prints: the store is saved if a reply reports a change, and the lines are printed
-  abbrev pub session_effect : Effect
-  session_effect = replied kind file hidden (replies (moments rules store events)) (image (left rules store events)) reply_lines
+-- what a session saves and prints: the store is saved if a reply reports a change, and the lines of the replies are printed
+abbrev pub session_effect : {S I : Type 0} → FileKind → Rules S I → (S → List ℕ) → (List ReplyContent → List ℕ) → Option ℕ → List ℕ → S → List (Event I) → Effect
+session_effect kind rules image lines hidden file store events =
+    let reported = replies (moments rules store events) in
+    replied kind file hidden reported (image (left rules store events)) (lines reported)
 
 -- ---- a run whose lines come from a script
 

@@ -51,6 +51,7 @@ fn are_changes<A: Allocator>(replies: &[Reply<A>]) -> bool
 
 /// Returns what to print after a session with those replies, and the image to save if they report a change. From
 /// `hidden` on MIT's programs see no entry, and miss one that was added.
+#[tactic(auto, using(krb_text::proofs::Found::any_of_map))]
 pub fn replied<A: Allocator + Copy, F: RecordFormat>(
     alloc: A,
     kind: FileKind,

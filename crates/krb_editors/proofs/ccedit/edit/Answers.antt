@@ -1,4 +1,4 @@
-use Rattle.krb_editors.proofs.ForAnswers.{ℕ, List, map, ap, ◌∙◌, content_of, cache_rules, CacheState, image_of, reply_texts_by, replied, V4, Cache, None, cache_keeps, made_as, made_so, ran_fair, session_made}
+use Rattle.krb_editors.proofs.ForAnswers.{ℕ, List, map, ap, ◌∙◌, content_of, cache_rules, image_of, reply_texts_by, replied, V4, Cache, None, made_as, made_so, ran_fair, session_made}
 use Rattle.krb_cache_text.specs.Reply.{cache_record_tail}
 use Rattle.krb_editors.specs.Ccedit.{RunsFairly, cache_events, edits}
 use Rattle.krb_editors.proofs.ccedit.edit.Goals as goal
@@ -13,7 +13,7 @@ returns-clause-made g c =
     let ran = rw c.new-replies.ensures.items at c.in_ok-cache.ensures.ran in
     let image = c.into_image.ensures.spelled ∙ ap image_of c.in_ok-cache.ensures.left in
     made_as (λ (file : List ℕ). replied Cache file None reported bytes (reply_texts_by cache_record_tail V4 cache.version reported)) (λ (file : List ℕ). edits c.args.lines.now file cache)
-    (session_made Cache cache_rules image_of cache_record_tail (λ (k : CacheState). k.version) V4 cache_keeps cache events reported bytes ran image None)
+    (session_made Cache cache_rules image_of (reply_texts_by cache_record_tail V4 cache.version) cache events reported bytes ran image None)
     c.replied.result (rw (c.deref.ensures.value, c.version.ensures) at c.replied.ensures)
 
 -- every walk is given what is due to it

@@ -1,4 +1,4 @@
-use Rattle.krb_editors.proofs.ForAnswers.{◌≡◌, ℕ, List, [], map, ap, subst, ◌∙◌, content_of, SessionState, session_of, history, record_tail, reply_texts_by, HaveSame, followed_over, added, left, new_session, replied, V2, keytab_rules, hides_added, Keytab, RunsFairly, edits, hidden, hides_same, begun_fair, keytab_keeps, left_begun, made_as, made_so, ran_begun, session_made}
+use Rattle.krb_editors.proofs.ForAnswers.{◌≡◌, ℕ, List, [], map, ap, subst, ◌∙◌, content_of, SessionState, session_of, history, record_tail, reply_texts_by, HaveSame, followed_over, added, left, new_session, replied, V2, keytab_rules, hides_added, Keytab, RunsFairly, edits, hidden, hides_same, begun_fair, left_begun, made_as, made_so, ran_begun, session_made}
 use Rattle.krb_keytab.specs.Store.{InMemory, KeytabState, image_of}
 use Rattle.krb_editors.proofs.ktedit.edit.Goals as goal
 
@@ -21,7 +21,7 @@ returns-clause-made g c =
     ∙ ap (hides_added (left keytab_rules keytab events)) c.deref.ensures.value
     ∙ hides_same (left keytab_rules keytab events) c.in_ok-added.added.items (added keytab_rules keytab events) same in
     made_as (λ (file : List ℕ). replied Keytab file (hidden events keytab) reported bytes (reply_texts_by record_tail V2 keytab.format reported)) (λ (file : List ℕ). edits events file keytab)
-    (session_made Keytab keytab_rules image_of record_tail (λ (k : KeytabState). k.format) V2 keytab_keeps keytab events reported bytes (ran_begun keytab_rules keytab events old new reported begins ran) image (hidden events keytab))
+    (session_made Keytab keytab_rules image_of (reply_texts_by record_tail V2 keytab.format) keytab events reported bytes (ran_begun keytab_rules keytab events old new reported begins ran) image (hidden events keytab))
     c.replied.result (rw (c.deref-2.ensures.value, c.format-format.ensures, hides) at c.replied.ensures)
 
 -- every walk is given what is due to it
