@@ -1,16 +1,15 @@
 -- The names that the proofs cite most, passed on from one place. Declares nothing.
-pub use Rattle.std.proofs.Common.{◌∙◌, ap, map, sym, ◌≡◌, List, ℕ, [], refl, ◌++◌, subst, arith, length, ◌∷◌, inr, true, inl, ◌<◌, false, Bool, take, ◌≤◌, append_assoc, ◌⊎◌, rules, get_or, Some, ◌-◌, Option, ◌≢◌, zero, suc, None, cond, ◌+◌, drop}
+pub use Rattle.std.proofs.Common.{◌∙◌, ap, map, sym, ◌≡◌, List, ℕ, [], refl, ◌++◌, subst, arith, length, ◌∷◌, inr, true, inl, ◌<◌, false, Bool, take, ◌≤◌, append_assoc, rules, get_or, Some, ◌-◌, Option, ◌≢◌, zero, suc, None, cond, ◌+◌, drop}
 pub use Rattle.std.proofs.lemmas.List.{append-nil, take_more, take_all, drop_more, drop_all}
 pub use Rattle.std.proofs.lemmas.Result.{err_from_is_err_and}
 pub use Rattle.std.specs.List.{list_any, flat_map}
-pub use Rattle.std.specs.Prelude.{Err, Ok, Result, nat_lt, unwrap_or, ◌||◌}
-pub use Rattle.krb_editors.specs.Sessions.{HaveSame, followed_over, carry_by, followed_past, places_after, new_session, replied, left, may_change, added, session_effect, RunsFairly, lines_in}
+pub use Rattle.std.specs.Prelude.{Err, Ok, nat_lt, unwrap_or, ◌||◌}
+pub use Rattle.krb_editors.specs.Sessions.{HaveSame, followed_over, carry_by, followed_past, places_after, new_session, replied, left, may_change, added, session_effect, RunsFairly}
 pub use Rattle.krb_editors.specs.Ccedit.{cache_session, lines_events, is_refusal, line_events}
-pub use Rattle.krb_editors.specs.Hold.{held_in, LoadsImage, frame}
 pub use Rattle.krb_ccache.specs.Rewrite.{cache_rules}
 pub use Rattle.krb_ccache.specs.Store.{CacheState, image_of, PlacedCredential, placed_credentials}
 pub use Rattle.krb_driver.proofs.Making.{makes-fairly, fairly-failed, fairly-holds, makes-end}
-pub use Rattle.krb_driver.specs.Commands.{fair_first, of_file, GivesOf, Makes, text_effect, Fails, Effect, IsSpent, opens, can_hold, Displays, text, CommandPlan, faults, saves_unless}
+pub use Rattle.krb_driver.specs.Commands.{fair_first, Makes, text_effect, Fails, Effect, IsSpent, opens, can_hold, Displays, text, CommandPlan, faults, saves_unless}
 pub use Rattle.krb_driver.specs.declared.error.RunError.{RunError}
 pub use Rattle.krb_files.specs.Plan.{Ends}
 pub use Rattle.krb_keytab.specs.Store.{KeytabState}
@@ -24,10 +23,10 @@ pub use Rattle.krb_walk.specs.ReplyContent.{content_of, ReplyContent, Refused, S
 pub use Rattle.krb_walk.specs.Rules.{Rules}
 pub use Rattle.krb_walk.specs.Store.{end_of, is_place, Store, Record, next_live, stop_of, IsSound, stop_at}
 pub use Rattle.krb_walk.specs.declared.event.Event.{Event}
-pub use Rattle.krb_driver.specs.Loading.{keytab_or_empty, cache_of, result_map_err}
+pub use Rattle.krb_driver.specs.Loading.{keytab_or_empty, cache_of}
 pub use Rattle.krb_files.specs.declared.files.Files.{Ghosts}
 pub use Rattle.krb_driver.specs.declared.file_name.FileName.{FileName}
-pub use Rattle.krb_driver.specs.declared.error.RunError.TheVariants.{NothingToCopy, NoMemory}
+pub use Rattle.krb_driver.specs.declared.error.RunError.TheVariants.{NothingToCopy}
 pub use Rattle.krb_walk.specs.declared.event.Event.TheVariants.{Put, Cut}
 pub use Rattle.krb_walk.specs.declared.refusal.Code.{Code}
 pub use Rattle.krb_ccache.specs.Credential.{CredParts}
@@ -38,7 +37,6 @@ pub use Rattle.krb_wire.specs.declared.format.KtFormat.TheVariants.{V2}
 pub use Rattle.krb_keytab.specs.Rewrite.{keytab_rules}
 pub use Rattle.krb_audit.specs.Findings.{hides_added, hidden_at, hidden_from}
 pub use Rattle.krb_text.proofs.Found.{any_of_map}
-pub use Rattle.krb_driver.specs.RunErrors.{line_error, script_error}
 pub use Rattle.krb_walk.specs.Stops.{records_from}
 pub use Rattle.krb_walk.proofs.Stops.{stops_end, stops_give_records, walks_begin_with_all}
 pub use Rattle.std.specs.List.Sorted.{IsNonDecreasing}

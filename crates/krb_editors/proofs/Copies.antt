@@ -1,5 +1,5 @@
 -- Copying from a keytab.
-use Rattle.krb_editors.proofs.Cited.{◌≡◌, Bool, true, false, List, [], inl, inr, refl, sym, ap, subst, ◌∙◌, cond, Ends, Makes, CommandPlan, Effect, Fails, IsSpent, faults, makes-end, Ghosts, NothingToCopy, FileName}
+use Rattle.krb_editors.proofs.Cited.{◌≡◌, Bool, true, List, [], inl, inr, refl, sym, ap, subst, ◌∙◌, cond, Ends, Makes, CommandPlan, Effect, Fails, IsSpent, faults, makes-end, Ghosts, NothingToCopy, FileName}
 use Rattle.krb_keytab.specs.Find.{PlacedEntry}
 use Rattle.krb_files.proofs.PlanLaws.{loaded-none}
 use Rattle.krb_editors.specs.declared.ktcopy.CopyOptions.{CopyOptions}
@@ -15,9 +15,3 @@ module _ {F A : Type 0} (trait : Ghosts F) (old : F) (o : CopyOptions A) (from t
   makes-none none =
       subst (λ (b : Bool). Makes trait old (cond b (Ends (Fails from.name.now NothingToCopy)) (copies_to o to xs)) (Fails from.name.now NothingToCopy) old) (sym (ap (finds_none o.selection) (sym ys_are) ∙ none))
       (makes-end trait old (Fails from.name.now NothingToCopy) (Fails from.name.now NothingToCopy) (inr refl))
-
-  -- it is there
-  pub makes-some : (effect : Effect) (new : F) → finds_none o.selection ys ≡ false → Makes trait old (copies_to o to ys) effect new → Makes trait old (copies_from o from to xs) effect new
-  makes-some effect new some made =
-      subst (λ (b : Bool). Makes trait old (cond b (Ends (Fails from.name.now NothingToCopy)) (copies_to o to xs)) effect new) (sym (ap (finds_none o.selection) (sym ys_are) ∙ some))
-      (subst (λ (zs : List PlacedEntry). Makes trait old (copies_to o to zs) effect new) ys_are made)

@@ -3,6 +3,5 @@ pub mod SessionReplies
 pub mod RunJoins
 pub mod Copies
 pub mod AddedPlaces
-mod Holding
 mod Looking
 pub mod ForAnswers

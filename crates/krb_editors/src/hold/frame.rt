@@ -1,16 +1,15 @@
 //! An image as programs hand it to each other: its length, a newline, and its bytes.
 
-ghost use Rattle.std.specs.Prelude.{◌≡◌, ◌==◌, ◌<◌, ◌≤◌, IfErr, IfSome, Ok, OnErr, OnOk, is_err, length, option_map};
+ghost use Rattle.std.specs.Prelude.{◌≡◌, ◌==◌, ◌<◌, ◌≤◌, IfSome, Ok, length, option_map};
 ghost use Rattle.std.specs.List.{position_from};
-ghost use Rattle.std.specs.Io.KnownBytes.{Appends};
-ghost use Rattle.krb_files.specs.Bytes.{AppendsPrefix};
 ghost use Rattle.krb_driver.specs.declared.verdict.Verdict.TheVariants.{Well};
+ghost use Rattle.krb_driver.specs.Messages.{pieces_text};
 ghost use Rattle.krb_driver.specs.Runs.{Shows};
 ghost use Rattle.krb_editors.specs.Hold.{framed, frame, head_len};
 
-use itoa::Buffer;
-use krb_driver::{RunError, Verdict};
-use krb_files::{OutFault, Watched, put};
+use krb_driver::MessagePiece::{self, Number, Operand, Text};
+use krb_driver::{RunError, Verdict, write_pieces};
+use krb_files::Watched;
 use krb_text::parse_u32;
 use std::alloc::Allocator;
 use std::io::Write;
@@ -18,26 +17,21 @@ use std::io::Write;
 /// The most bytes of a frame of an image that is not too large: ten digits, a newline, and 16 MiB.
 pub const MOST_FRAME: u32 = 16_777_227;
 
-// Writes the frame of an image, which is not copied.
-fn put_frame<W: Write>(image: &[u8], out: &mut Watched<W>) -> Result<(), OutFault>
-    ensures ok { OnOk result (Appends out.old.contents out.new.contents (frame image.now)) }
-    ensures prefix { OnErr result (AppendsPrefix out.old.contents out.new.contents (frame image.now)) }
-    ensures failed { out.new.failed ≡ is_err result }
-    ensures why { IfErr result (λ fault. fault ≡ OutFault.Write) }
+// Returns the pieces of the frame of an image.
+fn frame_of(image: &[u8]) -> [MessagePiece<'_>; 3]
+    ensures { pieces_text result ≡ frame image.now }
 {
-    put(out, Buffer::new().format(image.len()).as_bytes())?;
-    put(out, b"\n")?;
-    put(out, image)
+    [Number(image.len() as u64), Text("\n"), Operand(image)]
 }
 
 /// Prints the frame of an image.
 pub fn print_frame<W: Write>(image: &[u8], out: &mut Watched<W>) -> Result<Verdict, RunError>
     ensures { Shows (record { out = frame image.now; ending = Ok Well }) out.old out.new result }
 {
+    write_pieces(&frame_of(image), out);
     if out.has_failed() {
         return Err(RunError::OutputNotWritten);
     }
-    put_frame(image, out)?;
     Ok(Verdict::Well)
 }
 

@@ -1,6 +1,6 @@
 use Rattle.krb_editors.proofs.Cited.{ap, sym, ◌∙◌, err_from_is_err_and, RunError, Fails}
 use Rattle.krb_audit.specs.Selection.{selected_in}
-use Rattle.krb_editors.proofs.Copies.{makes-none, makes-some, makes-spent}
+use Rattle.krb_editors.proofs.Copies.{makes-none, makes-spent}
 use Rattle.krb_editors.proofs.ktcopy.copy_from.Goals as goal
 
 -- memory ran out
@@ -15,10 +15,3 @@ returns-then-finds_none g c =
     let o = c.args.command.now.options.now in
     let xs = selected_in o.selection 0 c.args.from.now.state in
     makes-none g.F.Files c.args.files.now o c.args.command.now.from c.args.command.now.to xs c.deref.result.now (c.deref.ensures.value ∙ c.in_ok-entries.ensures) (sym c.finds_none.ensures ∙ c.if-finds_none.true)
-
-pub returns : goal.returns
-returns g c =
-    let o = c.args.command.now.options.now in
-    let xs = selected_in o.selection 0 c.args.from.now.state in
-    makes-some g.F.Files c.args.files.now o c.args.command.now.from c.args.command.now.to xs c.deref.result.now (c.deref.ensures.value ∙ c.in_ok-entries.ensures) _ c.copy_to.new.files (sym c.finds_none.ensures ∙ c.if-finds_none.false)
-    (rw (c.deref-2.ensures.value ∙ sym c.deref.ensures.value) at c.copy_to.ensures)
