@@ -117,10 +117,10 @@ below_point p (x ∷ xs) (suc i) le some none =
     rw e (ap suc (below_point p xs i (omega arith) (λ k lt. some (suc k) (omega arith)) (λ k ge lt. none (suc k) (omega arith) (omega arith))))
 
 -- the element of that rank
-pub nth_or-get : (end : ℕ) (xs : List ℕ) (k : ℕ) → get_or xs k end ≡ nth_or end xs k
-nth_or-get end [] k = refl
-nth_or-get end (x ∷ xs) zero = refl
-nth_or-get end (x ∷ xs) (suc k) = nth_or-get end xs k
+pub nth_or_get : (end : ℕ) (xs : List ℕ) (k : ℕ) → get_or xs k end ≡ nth_or end xs k
+nth_or_get end [] k = refl
+nth_or_get end (x ∷ xs) zero = refl
+nth_or_get end (x ∷ xs) (suc k) = nth_or_get end xs k
 
 -- ascending numbers do not fall
 rises_ge : (lo end : ℕ) (xs : List ℕ) (k d : ℕ) → Rises lo xs end → k < length xs → lo ≤ get_or xs k d

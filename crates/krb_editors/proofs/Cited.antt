@@ -1,9 +1,9 @@
 -- The names that the proofs cite most, passed on from one place. Declares nothing.
-pub use Rattle.std.proofs.Common.{◌∙◌, ap, map, sym, ◌≡◌, List, ℕ, [], refl, ◌++◌, subst, arith, length, ◌∷◌, inr, true, inl, ◌<◌, false, Bool, take, ◌≤◌, append_assoc, rules, get_or, Some, ◌-◌, Option, ◌≢◌, zero, suc, None, cond, ◌+◌, drop}
+pub use Rattle.std.proofs.Common.{◌∙◌, ap, map, sym, ◌≡◌, List, ℕ, [], refl, ◌++◌, subst, arith, length, ◌∷◌, inr, true, inl, ◌<◌, false, Bool, take, ◌≤◌, append_assoc, rules, get_or, Some, ◌-◌, Option, ◌≢◌, zero, suc, None, ◌+◌, drop}
 pub use Rattle.std.proofs.lemmas.List.{append-nil, take_more, take_all, drop_more, drop_all}
 pub use Rattle.std.proofs.lemmas.Result.{err_from_is_err_and}
 pub use Rattle.std.specs.List.{list_any, flat_map}
-pub use Rattle.std.specs.Prelude.{Err, Ok, nat_lt, unwrap_or, ◌||◌}
+pub use Rattle.std.specs.Prelude.{Err, Ok, nat_lt, ◌||◌}
 pub use Rattle.krb_editors.specs.Sessions.{HaveSame, followed_over, carry_by, followed_past, places_after, new_session, replied, left, may_change, added, session_effect, RunsFairly}
 pub use Rattle.krb_editors.specs.Ccedit.{cache_session, lines_events, is_refusal, line_events}
 pub use Rattle.krb_ccache.specs.Rewrite.{cache_rules}

@@ -1,10 +1,7 @@
 -- Several files were looked for, one after the other.
 use Rattle.krb_editors.proofs.Cited.{List, ◌∷◌, refl, subst, sym, ℕ, ◌<◌, get_or, length, Bool, true, false, ◌≡◌, ◌+◌, drop, drop_more, ◌||◌, Ghosts, FileName, LooksAt, LooksFor}
 use Rattle.krb_driver.specs.Runs.{ErrorWatch}
-
-or_assoc : (a b c : Bool) → ((a || b) || c) ≡ (a || (b || c))
-or_assoc true b c = refl
-or_assoc false b c = refl
+use Rattle.std.proofs.Math.Bool.{or_assoc}
 
 pub or_false : (a : Bool) → (a || false) ≡ a
 or_false true = refl

@@ -53,6 +53,7 @@ fn rank(places: &[u32], place: u32) -> usize
 }
 
 // Returns the place of that rank, or the end if there is none.
+#[tactic(auto, using(crate::proofs::AddedPlaces::nth_or_get))]
 fn of_rank(places: &[u32], end: u32, rank: usize) -> u32
     ensures { result ≡ nth_or end places.now rank }
 {
@@ -78,6 +79,7 @@ fn carried<A: Allocator + Copy>(
 }
 
 // Follows the places of added entries past a reply. `before` are the live places of the store that a rewrite replaced.
+#[tactic(auto, using(crate::proofs::AddedPlaces::same_inserted, crate::proofs::AddedPlaces::same_removed))]
 fn follow<P: Placed, A: Allocator + Copy>(
     alloc: A,
     store: &P,

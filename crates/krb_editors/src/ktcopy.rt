@@ -226,6 +226,7 @@ fn copy_to<'a, A: Allocator + Copy, B: Allocator, F: Files>(
 }
 
 // Copies the selected entries of the keytab FROM.
+#[tactic(auto, using(crate::proofs::Copies::makes_spent, crate::proofs::Copies::makes_none))]
 fn copy_from<'a, A: Allocator + Copy, B: Allocator, F: Files>(
     alloc: A,
     command: &CopyEntries<'a, B>,

@@ -1,4 +1,4 @@
-use Rattle.krb_editors.proofs.Cited.{◌≡◌, ◌∙◌, arith, ℕ, List, [], ◌++◌, length, ap, refl, sym, subst, Ok, Err}
+use Rattle.krb_editors.proofs.Cited.{◌≡◌, ◌∙◌, arith, ℕ, List, ◌++◌, length, ap, refl, sym, subst, Ok, Err}
 use Rattle.std.proofs.Common.{length-append}
 use Rattle.std.proofs.lemmas.Bool.{true≢false, false≢true}
 use Rattle.std.specs.Prelude.{codes, decimal, IsTrue, IsFalse}
