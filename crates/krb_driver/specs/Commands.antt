@@ -2,13 +2,13 @@
 use Rattle.std.specs.Prelude.{◌≡◌, ◌⊎◌, ℕ, Bool, true, false, not, ◌&&◌, ◌||◌, if◌then◌else◌, List, Result, Ok, Err, [], ◌∷◌, Option, None, Some, IsTrue}
 use Rattle.krb_files.specs.declared.files.SaveFault.{SaveFault}
 use Rattle.krb_files.specs.Files.{SameFiles, CountsFailure}
-use Rattle.krb_files.specs.Loading.{Answer, LoadsFile, SavesFile, TurnsHold}
-use Rattle.krb_files.specs.Plan.{Plan, Ends, Holds, Loads, Faults, Loaded, follow}
-use Rattle.krb_driver.specs.declared.error.RunError.{RunError}
+pub use Rattle.krb_files.specs.Loading.{Answer, LoadsFile, SavesFile, TurnsHold}
+pub use Rattle.krb_files.specs.Plan.{Plan, Ends, Holds, Loads, Faults, Loaded, follow}
+pub use Rattle.krb_driver.specs.declared.error.RunError.{RunError}
 use Rattle.krb_driver.specs.declared.error.RunError.TheVariants as error
-use Rattle.krb_driver.specs.declared.file_name.FileName.{FileName}
+pub use Rattle.krb_driver.specs.declared.file_name.FileName.{FileName}
 use Rattle.krb_driver.specs.RunErrors.{error_of_name, Ending, is_spent, is_unread}
-use Rattle.krb_files.specs.declared.files.Files.{Ghosts}
+pub use Rattle.krb_files.specs.declared.files.Files.{Ghosts}
 use Rattle.krb_files.specs.declared.aftermath.Aftermath.{Aftermath}
 use Rattle.krb_files.specs.declared.files.LoadFault.TheVariants as load
 use Rattle.krb_files.specs.Bytes.{Watch}
@@ -16,11 +16,11 @@ use Rattle.krb_driver.specs.declared.command.FileError.{FileError}
 use Rattle.krb_driver.specs.declared.command.Made.{Made}
 use Rattle.krb_driver.specs.declared.command.Made.TheVariants as made
 use Rattle.krb_driver.specs.declared.command.Output.{Output}
-use Rattle.krb_driver.specs.declared.command.RunEnd.{RunEnd}
+pub use Rattle.krb_driver.specs.declared.command.RunEnd.{RunEnd}
 use Rattle.krb_driver.specs.declared.command.Ready.{Ready}
 use Rattle.krb_driver.specs.declared.command.Ready.TheVariants as ready
 use Rattle.krb_driver.specs.declared.reporting.details.Details.{Details}
-use Rattle.krb_driver.specs.declared.command.World.{World}
+pub use Rattle.krb_driver.specs.declared.command.World.{World}
 use Rattle.krb_driver.specs.Runs.{ErrorWatch, Run, EndsRun, Shows, BreaksOff, Reports, ends_by}
 pub use Rattle.krb_driver.specs.Effects.{Page, text, Effect, Fails, Displays, Saves, ending_of, about, is_save, saves_unless, saved_end, settled, files_after, IsSpent, IsMade, IsFailure}
 

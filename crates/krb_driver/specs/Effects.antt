@@ -1,12 +1,9 @@
 -- What a command comes to: what it prints, saves and ends with.
 use Rattle.std.specs.Prelude.{◌≡◌, ◌⊎◌, ℕ, Bool, true, false, List, Result, Ok, Err, IsTrue}
-use Rattle.krb_files.specs.declared.files.SaveFault.{SaveFault}
 use Rattle.krb_files.specs.Files.{FileMap}
 use Rattle.krb_files.specs.Plan.{with_bytes}
-use Rattle.krb_driver.specs.declared.error.RunError.{RunError}
 use Rattle.krb_driver.specs.declared.error.RunError.TheVariants as error
-use Rattle.krb_driver.specs.declared.verdict.Verdict.{Verdict}
-use Rattle.krb_driver.specs.RunErrors.{Ending, is_unread, save_error}
+use Rattle.krb_driver.specs.RunErrors.{SaveFault, RunError, Verdict, Ending, is_unread, save_error}
 
 -- what is printed, how the run then ends, and whether printing it takes memory
 pub record Page : Type 0 where

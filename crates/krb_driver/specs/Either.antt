@@ -2,17 +2,15 @@
 use Rattle.std.specs.Prelude.{ℕ, List, if◌then◌else◌, Option, Result, Ok, Err}
 use Rattle.krb_wire.specs.declared.format.Order.{Order}
 use Rattle.krb_walk.specs.Store.{fault_of}
-use Rattle.krb_walk.specs.declared.fault.Fault.{Fault}
 use Rattle.krb_keytab.specs.Store.{KeytabState, store_of}
 use Rattle.krb_ccache.specs.Store.{CacheState, open_result as cache_result, store_of as cache_store}
 use Rattle.krb_files.specs.Loading.{Answer, most_bytes}
 use Rattle.krb_driver.specs.declared.either.Contents.{Contents}
 use Rattle.krb_driver.specs.declared.either.Contents.TheVariants as contents
-use Rattle.krb_driver.specs.declared.error.RunError.{RunError}
 use Rattle.krb_driver.specs.declared.error.RunError.TheVariants.{NeitherToShow}
 use Rattle.krb_driver.specs.Beginnings.{begins_as, is_keytab}
 use Rattle.krb_driver.specs.Loading.{keytab_in, not_cache, result_map, result_map_err}
-use Rattle.krb_driver.specs.RunErrors.{load_error}
+use Rattle.krb_driver.specs.RunErrors.{Fault, RunError, load_error}
 
 -- a keytab or a cache
 pub data EitherState : Type 0 where

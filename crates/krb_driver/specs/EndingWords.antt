@@ -1,9 +1,7 @@
 -- The words that explain how a run ended: what follows its message where words are shown.
 use Rattle.std.specs.Prelude.{ℕ, List, [], ◌++◌, Bool, true, false, nat_eq, if◌then◌else◌, Option, None, Some, is_some, option_map, unwrap_or, Ok, Err, codes, decimal, unsigned_abs}
-use Rattle.krb_walk.specs.declared.refusal.Code.{Code}
 use Rattle.krb_walk.specs.declared.refusal.Code.TheVariants.{Damaged, Full, NotAPlace, NotLive, ReadOnly}
 use Rattle.std.specs.List.{flat_map, starts_with}
-use Rattle.krb_walk.specs.declared.fault.Fault.{Fault}
 use Rattle.krb_walk.specs.Phrases.{code_number, fault_number, code_phrase, fault_phrase}
 use Rattle.krb_keytab.specs.declared.open.KtOpenFault.{KtOpenFault}
 use Rattle.krb_keytab.specs.declared.open.KtOpenFault.TheVariants as kt
@@ -15,14 +13,11 @@ use Rattle.krb_files.specs.declared.cause.Cause.{Cause}
 use Rattle.krb_files.specs.declared.cause.Cause.TheVariants.{InTheWay, System}
 use Rattle.krb_files.specs.Phrases.{cause_phrase}
 use Rattle.krb_text.specs.Escape.{escaped_text}
-use Rattle.krb_text.specs.declared.line_fault.LineFault.{LineFault}
 use Rattle.krb_text.specs.declared.line_fault.LineFault.TheVariants.{UnknownWord}
 use Rattle.krb_text.specs.LineFault.{line_phrase, ktutil_phrase}
 use Rattle.krb_findings.specs.Table.{all_findings, findings_about_tickets, has, row_of}
 use Rattle.krb_findings.specs.declared.finding.Finding.{Finding}
 use Rattle.krb_findings.specs.declared.finding_set.FindingSet.{FindingSet}
-use Rattle.krb_driver.specs.declared.error.RunError.{RunError}
-use Rattle.krb_driver.specs.declared.file_name.NameSource.{NameSource}
 use Rattle.krb_driver.specs.declared.file_name.NameSource.TheVariants.{Word, LikePrincipal, CacheVariable, KeytabVariable, Default}
 use Rattle.krb_driver.specs.declared.error.RunError.TheVariants as error
 use Rattle.krb_driver.specs.declared.verdict.FileKind.{FileKind}
@@ -34,9 +29,7 @@ use Rattle.krb_driver.specs.declared.reporting.reported.Reported.{Reported}
 use Rattle.krb_driver.specs.declared.verdict.Findings.{Findings}
 use Rattle.krb_driver.specs.declared.verdict.TicketsSought.{TicketsSought}
 use Rattle.krb_driver.specs.declared.verdict.TicketsSought.TheVariants.{Asked, OfServices}
-use Rattle.krb_driver.specs.declared.verdict.Verdict.{Verdict}
 use Rattle.krb_driver.specs.declared.verdict.Verdict.TheVariants.{HiddenFrom, NoEntry, Listed, Replied, Found, Judged, NothingToRemove, Clashed}
-use Rattle.krb_driver.specs.declared.first_word.FirstWord.{FirstWord}
 use Rattle.krb_driver.specs.declared.beginning.Beginning.{Beginning}
 use Rattle.krb_driver.specs.declared.beginning.Beginning.TheVariants as begins
 use Rattle.krb_driver.specs.Beginnings.{beginning_phrase}
@@ -44,7 +37,7 @@ use Rattle.krb_driver.specs.FileNames.{shown_name, type_of, untyped}
 use Rattle.krb_driver.specs.FirstWords.{word_text}
 use Rattle.krb_driver.specs.Hints.{hint_words}
 use Rattle.krb_driver.specs.Messages.{line_if, numbered_line, words_line, phrase_line}
-use Rattle.krb_driver.specs.RunErrors.{Ending}
+use Rattle.krb_driver.specs.RunErrors.{Code, Fault, LineFault, RunError, NameSource, Verdict, FirstWord, Ending}
 
 -- ---- phrases
 

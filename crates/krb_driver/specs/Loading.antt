@@ -7,18 +7,14 @@ use Rattle.krb_keytab.specs.Store.{KeytabState, empty, open_result, store_of}
 use Rattle.krb_ccache.specs.declared.open.CcOpenFault.{CcOpenFault}
 use Rattle.krb_ccache.specs.Store.{CacheState, open_result as cache_result, store_of as cache_store}
 use Rattle.krb_files.specs.declared.files.Files.{Ghosts}
-use Rattle.krb_files.specs.declared.files.LoadFault.{LoadFault}
 use Rattle.krb_files.specs.declared.files.LoadFault.TheVariants as load
 use Rattle.krb_files.specs.Loading.{LoadsFile, most_bytes, Answer}
-use Rattle.krb_driver.specs.declared.loading.NoKeytab.{NoKeytab}
 use Rattle.krb_driver.specs.declared.loading.NotCache.{NotCache}
 use Rattle.krb_driver.specs.declared.loading.NoKeytab.TheVariants.{Load, Open}
-use Rattle.krb_driver.specs.declared.error.RunError.{RunError}
 use Rattle.krb_driver.specs.declared.error.RunError.TheVariants.{NotACache, NotACacheToMatch, Refused}
 use Rattle.krb_driver.specs.Beginnings.{begins_as}
-use Rattle.krb_driver.specs.RunErrors.{load_error, list_error, no_keytab_error}
+use Rattle.krb_driver.specs.RunErrors.{LoadFault, NoKeytab, RunError, Code, load_error, list_error, no_keytab_error}
 use Rattle.krb_walk.specs.Store.{fault_of}
-use Rattle.krb_walk.specs.declared.refusal.Code.{Code}
 use Rattle.krb_walk.specs.declared.refusal.Code.TheVariants.{Damaged, ReadOnly}
 use Rattle.krb_ccache.specs.Changes.{is_read_only}
 use Rattle.krb_driver.specs.declared.verdict.FileKind.TheVariants.{Keytab, Cache}

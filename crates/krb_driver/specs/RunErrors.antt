@@ -1,33 +1,33 @@
 -- How a run ends: its verdict, or the error that ends it, its message and its exit status.
 use Rattle.std.specs.Prelude.{ℕ, List, [], if◌then◌else◌, Option, None, Some, codes, max, Bool, true, false, Result, Ok, Err}
-use Rattle.krb_walk.specs.declared.fault.Fault.{Fault}
-use Rattle.krb_walk.specs.declared.refusal.Code.{Code}
+pub use Rattle.krb_walk.specs.declared.fault.Fault.{Fault}
+pub use Rattle.krb_walk.specs.declared.refusal.Code.{Code}
 use Rattle.krb_walk.specs.declared.refusal.Code.TheVariants.{NotFound, Damaged}
 use Rattle.krb_walk.specs.Phrases.{code_number}
-use Rattle.krb_driver.specs.declared.verdict.Verdict.{Verdict}
+pub use Rattle.krb_driver.specs.declared.verdict.Verdict.{Verdict}
 use Rattle.krb_driver.specs.declared.verdict.Verdict.TheVariants.{Well, HiddenFrom, NoEntry, Without, Listed, Replied, Found, Judged, NothingToRemove}
 use Rattle.krb_driver.specs.Messages.{numbered, message, file_message, line_message}
 use Rattle.krb_keytab.specs.Open.{open_fault_number}
 use Rattle.krb_ccache.specs.Open.{open_fault_number as cache_fault_number}
-use Rattle.krb_files.specs.declared.aftermath.Aftermath.{Aftermath}
+pub use Rattle.krb_files.specs.declared.aftermath.Aftermath.{Aftermath}
 use Rattle.krb_files.specs.declared.aftermath.Aftermath.TheVariants.{LostChange, Mixed}
-use Rattle.krb_files.specs.declared.files.LoadFault.{LoadFault}
+pub use Rattle.krb_files.specs.declared.files.LoadFault.{LoadFault}
 use Rattle.krb_files.specs.declared.files.LoadFault.TheVariants as load
-use Rattle.krb_files.specs.declared.files.SaveFault.{SaveFault}
+pub use Rattle.krb_files.specs.declared.files.SaveFault.{SaveFault}
 use Rattle.krb_files.specs.declared.files.SaveFault.TheVariants as save
 use Rattle.krb_files.specs.declared.output.OutFault.{OutFault}
 use Rattle.krb_files.specs.declared.output.OutFault.TheVariants as out
 use Rattle.krb_text.specs.declared.line_fault.ScriptRefusal.{ScriptRefusal}
 use Rattle.krb_text.specs.declared.line_fault.ScriptRefusal.TheVariants as refusal
-use Rattle.krb_text.specs.declared.line_fault.LineFault.{LineFault}
+pub use Rattle.krb_text.specs.declared.line_fault.LineFault.{LineFault}
 use Rattle.krb_text.specs.declared.line_fault.LineFault.TheVariants.{UnknownWord, WordCount}
 use Rattle.krb_text.specs.LineFault.{line_fault_number}
-use Rattle.krb_driver.specs.declared.file_name.NameSource.{NameSource}
-use Rattle.krb_driver.specs.declared.first_word.FirstWord.{FirstWord}
+pub use Rattle.krb_driver.specs.declared.file_name.NameSource.{NameSource}
+pub use Rattle.krb_driver.specs.declared.first_word.FirstWord.{FirstWord}
 use Rattle.krb_driver.specs.declared.file_name.NameSource.TheVariants.{Word}
-use Rattle.krb_driver.specs.declared.loading.NoKeytab.{NoKeytab}
+pub use Rattle.krb_driver.specs.declared.loading.NoKeytab.{NoKeytab}
 use Rattle.krb_driver.specs.declared.loading.NoKeytab.TheVariants.{Load, Open}
-use Rattle.krb_driver.specs.declared.error.RunError.{RunError}
+pub use Rattle.krb_driver.specs.declared.error.RunError.{RunError}
 use Rattle.krb_driver.specs.declared.error.RunError.TheVariants as error
 use Rattle.krb_driver.specs.FirstWords.{first_word, line_at, safe_word}
 

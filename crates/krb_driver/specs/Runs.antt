@@ -1,16 +1,13 @@
 -- What a run of the program prints and reports, and its exit status.
 use Rattle.std.specs.Prelude.{Bool, ℕ, List, [], ◌++◌, codes, true, false, ◌||◌, Option, None, Some, ◌≡◌, IsTrue, IsFalse, Err}
 use Rattle.krb_files.specs.Bytes.{Watch, AppendsPrefix}
-use Rattle.krb_files.specs.declared.aftermath.Aftermath.{Aftermath}
 use Rattle.krb_files.specs.declared.aftermath.Aftermath.TheVariants.{Restored}
 use Rattle.krb_files.specs.Phrases.{aftermath_phrase}
 use Rattle.krb_driver.specs.declared.reporting.details.Details.{Details}
 use Rattle.krb_driver.specs.EndingWords.{ending_words, found_fault_words}
-use Rattle.krb_walk.specs.declared.fault.Fault.{Fault}
 use Rattle.krb_driver.specs.Messages.{file_message, phrase_line}
-use Rattle.krb_driver.specs.RunErrors.{Ending, ending_message, end_status}
+use Rattle.krb_driver.specs.RunErrors.{Aftermath, Fault, RunError, Ending, ending_message, end_status}
 use Rattle.std.specs.Io.KnownBytes.{Appends}
-use Rattle.krb_driver.specs.declared.error.RunError.{RunError}
 use Rattle.krb_driver.specs.declared.error.RunError.TheVariants.{OutputNotWritten, NoMemory}
 use Rattle.krb_text.specs.Gathered.{Sent}
 

@@ -1,11 +1,7 @@
 -- What a run of one command over several files does.
 use Rattle.std.specs.Prelude.{◌≡◌, ◌⊎◌, ℕ, max, List, [], ◌∷◌, ◌++◌, codes, Bool, true, false, IsTrue, IsFalse, if◌then◌else◌, Option, Err}
-use Rattle.krb_files.specs.declared.files.Files.{Ghosts}
-use Rattle.krb_driver.specs.declared.command.RunEnd.{RunEnd}
-use Rattle.krb_driver.specs.declared.command.World.{World}
 use Rattle.krb_driver.specs.declared.error.RunError.TheVariants as error
-use Rattle.krb_driver.specs.declared.file_name.FileName.{FileName}
-use Rattle.krb_driver.specs.Commands.{CommandPlan, EndsCommand, any}
+use Rattle.krb_driver.specs.Commands.{Ghosts, RunEnd, World, FileName, CommandPlan, EndsCommand, any}
 use Rattle.krb_driver.specs.FileNames.{shown_name}
 use Rattle.krb_driver.specs.RunErrors.{Ending}
 

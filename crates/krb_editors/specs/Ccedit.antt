@@ -11,15 +11,13 @@ use Rattle.krb_ccache.specs.Rewrite.{cache_rules}
 use Rattle.krb_ccache.specs.SetConfig.{setting_events}
 use Rattle.krb_ccache.specs.Open.{InMemory}
 use Rattle.krb_ccache.specs.Store.{CacheState, image_of}
-use Rattle.krb_files.specs.Loading.{Answer}
-use Rattle.krb_files.specs.Plan.{Ends}
 use Rattle.krb_cache_text.specs.declared.request.Request.TheVariants as request
 use Rattle.krb_keytab_text.specs.Reply.{reply_texts_by}
 use Rattle.krb_cache_text.specs.Reply.{cache_record_tail}
 use Rattle.krb_cache_text.specs.Script.{CacheLineParts}
-use Rattle.krb_driver.specs.declared.file_name.FileName.{FileName}
 use Rattle.krb_driver.specs.declared.verdict.FileKind.TheVariants.{Cache}
-use Rattle.krb_driver.specs.Commands.{fair_first, CommandPlan, Effect, holds, opens}
+use Rattle.krb_driver.specs.declared.file_name.FileName.{FileName}
+use Rattle.krb_driver.specs.Commands.{Answer, Ends, fair_first, CommandPlan, Effect, holds, opens}
 use Rattle.krb_driver.specs.Loading.{cache_of}
 use Rattle.krb_editors.specs.Sessions as session
 use Rattle.krb_editors.specs.Sessions.{may_change}

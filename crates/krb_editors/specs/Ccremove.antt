@@ -6,16 +6,15 @@ use Rattle.krb_walk.specs.Events.{cut_store}
 use Rattle.krb_ccache.specs.Changes.{without}
 use Rattle.krb_ccache.specs.Rewrite.{rewrite_result}
 use Rattle.krb_ccache.specs.Store.{CacheState, PlacedCredential, image_of, placed_credentials}
-use Rattle.krb_files.specs.Plan.{Ends}
 use Rattle.krb_audit.specs.Tickets.{selected_tickets, names_ticket, removed_ticket_line}
 use Rattle.krb_editors.specs.declared.ccremove.TicketOptions.{TicketOptions}
-use Rattle.krb_driver.specs.declared.error.RunError.{RunError}
 use Rattle.krb_driver.specs.declared.error.RunError.TheVariants.{ClockNotRead}
-use Rattle.krb_driver.specs.declared.file_name.FileName.{FileName}
 use Rattle.krb_driver.specs.declared.verdict.FileKind.TheVariants.{Cache}
 use Rattle.krb_driver.specs.declared.verdict.Verdict.{Verdict}
 use Rattle.krb_driver.specs.declared.verdict.Verdict.TheVariants.{Well, NothingToRemove, Without}
-use Rattle.krb_driver.specs.Commands.{CommandPlan, Effect, Displays, holds, opens, saves_unless, text}
+use Rattle.krb_driver.specs.declared.error.RunError.{RunError}
+use Rattle.krb_driver.specs.declared.file_name.FileName.{FileName}
+use Rattle.krb_driver.specs.Commands.{Ends, CommandPlan, Effect, Displays, holds, opens, saves_unless, text}
 use Rattle.krb_driver.specs.Mistakes.{ArePrintedNames, Matched, bad_name, first_mistake, MistakeParts, nothing_selects}
 use Rattle.krb_driver.specs.Loading.{writable_in}
 use Rattle.krb_driver.specs.Several.{label_of}

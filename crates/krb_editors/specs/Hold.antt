@@ -2,32 +2,28 @@
 use Rattle.std.specs.Prelude.{ℕ, ◌+◌, ◌-◌, List, ◌++◌, length, drop, take, codes, decimal, ◌==◌, if◌then◌else◌, option_map, Option, None, Some, ◌≡◌, ◌⊎◌, nat_lt, Bool, true, false, bytes_eq, [], ◌∷◌, Result, Ok, Err, OnOk}
 use Rattle.std.specs.List.{position_from}
 use Rattle.krb_text.specs.Numbers.{number_in}
-use Rattle.krb_walk.specs.declared.fault.Fault.{Fault}
 use Rattle.krb_walk.specs.declared.refusal.Code.TheVariants.{Damaged}
 use Rattle.krb_walk.specs.Store.{fault_of}
 use Rattle.krb_keytab.specs.Store.{store_of}
 use Rattle.krb_ccache.specs.Store.{open_result as cache_result, store_of as cache_store}
-use Rattle.krb_files.specs.declared.files.Files.{Ghosts}
-use Rattle.krb_files.specs.declared.files.LoadFault.{LoadFault}
 use Rattle.krb_files.specs.declared.files.LoadFault.TheVariants.{Missing}
-use Rattle.krb_files.specs.declared.files.SaveFault.{SaveFault}
 use Rattle.krb_files.specs.declared.files.SaveFault.TheVariants.{Failed}
 use Rattle.krb_files.specs.Files.{SameFiles, CountsFailure}
 use Rattle.krb_files.specs.Loading.{Answer, LoadsFile, SavesFile, TurnsHold, most_bytes}
 use Rattle.krb_files.specs.Plan.{HeldIf}
 use Rattle.krb_files.specs.Bytes.{Source}
-use Rattle.krb_driver.specs.declared.error.RunError.{RunError}
 use Rattle.krb_driver.specs.declared.error.RunError.TheVariants as error
-use Rattle.krb_driver.specs.declared.file_name.FileName.{FileName}
 use Rattle.krb_driver.specs.declared.reporting.details.Details.{Details}
 use Rattle.krb_driver.specs.declared.verdict.FileKind.{FileKind}
 use Rattle.krb_driver.specs.declared.verdict.FileKind.TheVariants as kind
 use Rattle.krb_driver.specs.declared.verdict.Verdict.TheVariants.{Well}
+use Rattle.krb_driver.specs.declared.error.RunError.{RunError}
+use Rattle.krb_driver.specs.declared.file_name.FileName.{FileName}
 use Rattle.krb_driver.specs.declared.command.World.{World}
-use Rattle.krb_driver.specs.Commands.{GivesOf, can_hold}
+use Rattle.krb_driver.specs.Commands.{Ghosts, GivesOf, can_hold}
 use Rattle.krb_driver.specs.Loading.{GivesInput, not_cache, result_map, result_map_err, keytab_in}
 use Rattle.krb_driver.specs.Mistakes.{Matched, v1_order, MistakeParts, for_keytabs}
-use Rattle.krb_driver.specs.RunErrors.{Ending, input_error, load_error, save_error}
+use Rattle.krb_driver.specs.RunErrors.{Fault, LoadFault, SaveFault, Ending, input_error, load_error, save_error}
 use Rattle.krb_driver.specs.Runs.{Reports, Shows}
 use Rattle.krb_editors.specs.declared.hold.last_line.Outcome.TheVariants.{Saved, Left}
 use Rattle.krb_editors.specs.declared.hold.words.HoldKind.{HoldKind}

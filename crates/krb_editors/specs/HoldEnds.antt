@@ -4,17 +4,16 @@ use Rattle.krb_walk.specs.declared.refusal.Code.TheVariants.{Damaged}
 use Rattle.krb_walk.specs.Phrases.{code_number}
 use Rattle.krb_keytab.specs.Open.{open_fault_number}
 use Rattle.krb_ccache.specs.Open.{open_fault_number as cache_fault_number}
-use Rattle.krb_files.specs.declared.aftermath.Aftermath.{Aftermath}
 use Rattle.krb_files.specs.declared.aftermath.Aftermath.TheVariants as aftermath
 use Rattle.krb_files.specs.declared.cause.Cause.{Cause}
 use Rattle.krb_files.specs.Bytes.{Watch}
 use Rattle.krb_files.specs.Phrases.{cause_name}
-use Rattle.krb_driver.specs.declared.error.RunError.{RunError}
 use Rattle.krb_driver.specs.declared.error.RunError.TheVariants as error
 use Rattle.krb_driver.specs.declared.command.FileError.{FileError}
 use Rattle.krb_driver.specs.declared.verdict.Verdict.TheVariants.{Well}
 use Rattle.krb_driver.specs.Loading.{result_map_err}
-use Rattle.krb_driver.specs.RunErrors.{Ending}
+use Rattle.krb_driver.specs.declared.error.RunError.{RunError}
+use Rattle.krb_driver.specs.RunErrors.{Aftermath, Ending}
 use Rattle.krb_driver.specs.Runs.{Writes}
 use Rattle.krb_editors.specs.declared.hold.last_line.Outcome.{Outcome}
 use Rattle.krb_editors.specs.declared.hold.last_line.Outcome.TheVariants.{Saved, Left}

@@ -1,11 +1,9 @@
 -- What ktcopy does.
 use Rattle.std.specs.Prelude.{◌≡◌, ℕ, Bool, true, false, not, List, ◌&&◌, ◌||◌, length, nat_lt, ◌==◌, if◌then◌else◌, codes, Option, None, Some, option_map, option_and_then, Result, Ok, Err}
 use Rattle.std.specs.Option.{option_or}
-use Rattle.krb_walk.specs.declared.refusal.Code.{Code}
 use Rattle.krb_wire.specs.Reading.{principal_parts}
 use Rattle.krb_keytab.specs.Find.{PlacedEntry}
 use Rattle.krb_keytab.specs.Store.{image_of}
-use Rattle.krb_files.specs.Plan.{Ends}
 use Rattle.krb_copy.specs.Copying.{Run, asked_as, copy_run, has_lines}
 use Rattle.krb_audit.specs.declared.selection.SelectedKvno.{SelectedKvno}
 use Rattle.krb_audit.specs.declared.selection.SelectedKvno.TheVariants.{Any, Newest}
@@ -14,13 +12,13 @@ use Rattle.krb_audit.specs.Findings.{hides_added}
 use Rattle.krb_audit.specs.Selection.{selected_in}
 use Rattle.krb_driver.specs.declared.error.RunError.TheVariants.{NothingToCopy, Refused}
 use Rattle.krb_driver.specs.declared.verdict.FileKind.TheVariants.{Keytab}
-use Rattle.krb_driver.specs.declared.file_name.FileName.{FileName}
-use Rattle.krb_driver.specs.declared.verdict.Verdict.{Verdict}
 use Rattle.krb_driver.specs.declared.verdict.Verdict.TheVariants.{Clashed, Well}
-use Rattle.krb_driver.specs.Commands.{CommandPlan, Effect, Displays, Fails, holds, opens, saves_unless, text}
+use Rattle.krb_driver.specs.declared.file_name.FileName.{FileName}
+use Rattle.krb_driver.specs.Commands.{Ends, CommandPlan, Effect, Displays, Fails, holds, opens, saves_unless, text}
 use Rattle.krb_driver.specs.Mistakes.{Matched, bad_name, first_value, twice, v1_order, MistakeParts, only_with_one}
 use Rattle.krb_driver.specs.Loading.{whole_in, whole_or_empty}
-use Rattle.krb_driver.specs.RunErrors.{hiding}
+use Rattle.krb_driver.specs.declared.verdict.Verdict.{Verdict}
+use Rattle.krb_driver.specs.RunErrors.{Code, hiding}
 use Rattle.krb_editors.specs.declared.ktcopy.CopyOptions.{CopyOptions}
 use Rattle.krb_editors.specs.Selecting.{IsNewName, IsSpelledKvno, SpellsCriteria, asks_for_any, bad_criteria, bad_kvno}
 

@@ -2,16 +2,15 @@
 use Rattle.std.specs.Prelude.{◌≡◌, ℕ, List, [], ◌∷◌, Bool, not, ◌&&◌, ◌==◌, length, if◌then◌else◌}
 use Rattle.krb_keytab.specs.Find.{PlacedEntry}
 use Rattle.krb_keytab.specs.Store.{KeytabState}
-use Rattle.krb_files.specs.Plan.{Ends}
 use Rattle.krb_copy.specs.Diff.{diff_text}
 use Rattle.krb_audit.specs.declared.selection.SelectedKvno.TheVariants.{Any}
 use Rattle.krb_audit.specs.declared.selection.Selection.{Selection}
 use Rattle.krb_audit.specs.Selection.{selected_in}
 use Rattle.krb_driver.specs.declared.error.RunError.TheVariants.{NothingToCopy}
-use Rattle.krb_driver.specs.declared.file_name.FileName.{FileName}
 use Rattle.krb_driver.specs.declared.verdict.Verdict.{Verdict}
 use Rattle.krb_driver.specs.declared.verdict.Verdict.TheVariants.{Differ, Well}
-use Rattle.krb_driver.specs.Commands.{CommandPlan, Effect, Displays, Fails, opens, text}
+use Rattle.krb_driver.specs.declared.file_name.FileName.{FileName}
+use Rattle.krb_driver.specs.Commands.{Ends, CommandPlan, Effect, Displays, Fails, opens, text}
 use Rattle.krb_driver.specs.Loading.{whole_in}
 use Rattle.krb_driver.specs.Mistakes.{Matched, v1_order}
 use Rattle.krb_editors.specs.declared.ktdiff.DiffOptions.{DiffOptions}

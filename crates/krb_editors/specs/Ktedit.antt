@@ -7,13 +7,11 @@ use Rattle.krb_walk.specs.declared.event.Event.{Event}
 use Rattle.krb_keytab.specs.Entry.{EntryParts}
 use Rattle.krb_keytab.specs.Rewrite.{keytab_rules}
 use Rattle.krb_keytab.specs.Store.{KeytabState, image_of}
-use Rattle.krb_files.specs.Loading.{Answer}
-use Rattle.krb_files.specs.Plan.{Ends}
 use Rattle.krb_keytab_text.specs.Reply.{record_tail, reply_texts_by}
 use Rattle.krb_audit.specs.Findings.{hides_added}
-use Rattle.krb_driver.specs.declared.file_name.FileName.{FileName}
 use Rattle.krb_driver.specs.declared.verdict.FileKind.TheVariants.{Keytab}
-use Rattle.krb_driver.specs.Commands.{fair_first, CommandPlan, Effect, holds, opens}
+use Rattle.krb_driver.specs.declared.file_name.FileName.{FileName}
+use Rattle.krb_driver.specs.Commands.{Answer, Ends, fair_first, CommandPlan, Effect, holds, opens}
 use Rattle.krb_driver.specs.Loading.{keytab_or_empty}
 use Rattle.krb_editors.specs.Sessions as session
 use Rattle.krb_editors.specs.Sessions.{may_change}

@@ -6,7 +6,6 @@ use Rattle.std.specs.Str.{bytes_eq}
 use Rattle.krb_keytab.specs.Changes.{without}
 use Rattle.krb_keytab.specs.Find.{PlacedEntry, placed_entries}
 use Rattle.krb_keytab.specs.Store.{KeytabState, image_of}
-use Rattle.krb_files.specs.Plan.{Ends}
 use Rattle.krb_keytab_text.specs.Listing.{removed_line}
 use Rattle.krb_text.specs.Numbers.{seconds_in}
 use Rattle.krb_audit.specs.declared.selection.SelectedKvno.{SelectedKvno}
@@ -14,13 +13,13 @@ use Rattle.krb_audit.specs.declared.selection.SelectedKvno.TheVariants.{Old}
 use Rattle.krb_audit.specs.declared.selection.Selection.{Selection}
 use Rattle.krb_audit.specs.Selection.{selected_in, is_named, needs_clock}
 use Rattle.krb_editors.specs.declared.ktremove.RemoveOptions.{RemoveOptions}
-use Rattle.krb_driver.specs.declared.error.RunError.{RunError}
 use Rattle.krb_driver.specs.declared.error.RunError.TheVariants.{ClockNotRead}
-use Rattle.krb_driver.specs.declared.file_name.FileName.{FileName}
 use Rattle.krb_driver.specs.declared.verdict.FileKind.TheVariants.{Keytab}
 use Rattle.krb_driver.specs.declared.verdict.Verdict.{Verdict}
 use Rattle.krb_driver.specs.declared.verdict.Verdict.TheVariants.{Well, NothingToRemove, Without}
-use Rattle.krb_driver.specs.Commands.{CommandPlan, Effect, Displays, holds, opens, saves_unless, text}
+use Rattle.krb_driver.specs.declared.error.RunError.{RunError}
+use Rattle.krb_driver.specs.declared.file_name.FileName.{FileName}
+use Rattle.krb_driver.specs.Commands.{Ends, CommandPlan, Effect, Displays, holds, opens, saves_unless, text}
 use Rattle.krb_driver.specs.Mistakes.{Matched, bad_seconds, first_value, twice, v1_order, MistakeParts, nothing_selects, only_with}
 use Rattle.krb_driver.specs.Loading.{whole_in}
 use Rattle.krb_driver.specs.Several.{label_of}

@@ -1,14 +1,13 @@
 -- What removals from several files do.
 use Rattle.std.specs.Prelude.{◌≡◌, ◌⊎◌, ℕ, max, List, length, Bool, true, false, nat_lt, IsTrue, IsFalse, Option, Result, Ok, Err}
-use Rattle.krb_files.specs.declared.files.Files.{Ghosts}
+use Rattle.krb_driver.specs.declared.error.RunError.TheVariants as error
+use Rattle.krb_driver.specs.declared.verdict.FileKind.{FileKind}
+use Rattle.krb_driver.specs.declared.verdict.Verdict.TheVariants.{Without}
 use Rattle.krb_driver.specs.declared.command.RunEnd.{RunEnd}
 use Rattle.krb_driver.specs.declared.command.World.{World}
 use Rattle.krb_driver.specs.declared.error.RunError.{RunError}
-use Rattle.krb_driver.specs.declared.error.RunError.TheVariants as error
 use Rattle.krb_driver.specs.declared.file_name.FileName.{FileName}
-use Rattle.krb_driver.specs.declared.verdict.FileKind.{FileKind}
-use Rattle.krb_driver.specs.declared.verdict.Verdict.TheVariants.{Without}
-use Rattle.krb_driver.specs.Commands.{CommandPlan, EndsBefore, Prints, always}
+use Rattle.krb_driver.specs.Commands.{Ghosts, CommandPlan, EndsBefore, Prints, always}
 use Rattle.krb_driver.specs.RunErrors.{Ending}
 use Rattle.krb_driver.specs.Runs.{ends_by}
 use Rattle.krb_driver.specs.Several.{RunsOver, first_round}

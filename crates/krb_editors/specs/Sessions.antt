@@ -12,18 +12,15 @@ use Rattle.krb_walk.specs.declared.event.Event.TheVariants as event
 use Rattle.krb_walk.specs.Events.{SessionState}
 use Rattle.krb_walk.specs.Ran.{Ran}
 use Rattle.krb_driver.specs.declared.verdict.FileKind.{FileKind}
-use Rattle.krb_driver.specs.Commands.{Effect, Displays, Saves, text, RunsWith, CommandPlan}
+use Rattle.krb_driver.specs.declared.error.RunError.{RunError}
+use Rattle.krb_driver.specs.declared.command.World.{World}
+use Rattle.krb_driver.specs.Commands.{Ghosts, Effect, Displays, Saves, text, RunsWith, CommandPlan}
 use Rattle.krb_driver.specs.Reported.{replied_verdict}
-use Rattle.krb_driver.specs.RunErrors.{hiding, input_error, line_error}
-use Rattle.krb_files.specs.declared.files.Files.{Ghosts}
-use Rattle.krb_files.specs.declared.files.LoadFault.{LoadFault}
+use Rattle.krb_driver.specs.RunErrors.{LoadFault, LineFault, hiding, input_error, line_error}
 use Rattle.krb_files.specs.Loading.{Answer, most_bytes}
 use Rattle.krb_files.specs.Bytes.{Source}
-use Rattle.krb_text.specs.declared.line_fault.LineFault.{LineFault}
 use Rattle.krb_keytab_text.specs.Script.{script_by}
-use Rattle.krb_driver.specs.declared.error.RunError.{RunError}
 use Rattle.krb_driver.specs.declared.error.RunError.TheVariants.{NoMemory}
-use Rattle.krb_driver.specs.declared.command.World.{World}
 use Rattle.krb_driver.specs.Loading.{GivesInput, result_map_err}
 
 -- the places of added entries after a reply, between two stores: an addition adds its place, a removal takes its place away, and a rewrite moves each place as it moves the entries
