@@ -1,5 +1,5 @@
 -- What the calls that read a cache return.
-use Rattle.std.specs.Prelude.{◌≡◌, ℕ, List, [], ◌∷◌, Bool, not, ◌&&◌, Option, Some, None, find, Result, if◌then◌else◌}
+use Rattle.std.specs.Prelude.{◌≡◌, ℕ, List, [], ◌∷◌, Bool, not, ◌&&◌, Option, Some, None, find, Result, ok_or, if◌then◌else◌}
 use Rattle.krb_wire.specs.Spelling.{Parts}
 use Rattle.krb_wire.specs.Names.{have_same_name}
 use Rattle.krb_wire.specs.declared.name_fault.NameFault.{NameFault}
@@ -7,7 +7,8 @@ use Rattle.krb_ccache.specs.Credential.{CredParts}
 use Rattle.krb_ccache.specs.Store.{CacheState, PlacedCredential, placed_credentials}
 use Rattle.krb_ccache.specs.Config.{is_config}
 use Rattle.krb_c.specs.declared.cache.looks.KrbfTicket.{KrbfTicket}
-use Rattle.krb_c.specs.Text.{ByName, AreShown}
+use Rattle.krb_c.specs.Text.{FindsNamed, AreShown}
+use Rattle.krb_walk.specs.declared.refusal.Code.TheVariants.{NotFound}
 
 -- ---- what C sees of a credential
 
@@ -40,15 +41,9 @@ is_ticket_for server c = not (is_config c) && have_same_name server c.server
 abbrev pub ticket_for : CacheState → Parts → Option PlacedCredential
 ticket_for k server = find (λ x. is_ticket_for server x.1) (placed_credentials k)
 
--- a look-up shows what it finds; 39 if it finds nothing
-abbrev pub FindsOne : Option PlacedCredential → ℕ → KrbfTicket → KrbfTicket → Type 0
-FindsOne (Some x) status seen new_seen = (status ≡ 0) × Shows new_seen x.0 x.1
-FindsOne None status seen new_seen = (status ≡ 39) × (new_seen ≡ seen)
-
 -- a look-up of the server that a text names
 abbrev pub Finds : CacheState → Result Parts NameFault → ℕ → KrbfTicket → KrbfTicket → Type 0
-Finds k named status seen new_seen =
-    ByName (λ server. FindsOne (ticket_for k server) status seen new_seen) (λ why. (status ≡ why) × (new_seen ≡ seen)) named
+Finds k named = FindsNamed Shows (λ server. ok_or (ticket_for k server) NotFound) named
 
 -- a text, or none if it is empty
 abbrev pub text_or_none : List ℕ → Option (List ℕ)

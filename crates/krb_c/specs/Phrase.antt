@@ -1,5 +1,5 @@
 -- The phrase of a status.
-use Rattle.std.specs.Prelude.{◌≡◌, ℕ, ◌==◌, List, codes, Option, Some, None, option_map, if◌then◌else◌}
+use Rattle.std.specs.Prelude.{ℕ, ◌==◌, List, codes, Option, Some, None, option_map, if◌then◌else◌}
 use Rattle.std.specs.Option.{option_or}
 use Rattle.krb_wire.specs.declared.name_fault.NameFault.{NameFault}
 use Rattle.krb_wire.specs.declared.name_fault.NameFault.TheVariants as fault
@@ -10,8 +10,6 @@ use Rattle.krb_walk.specs.Phrases.{code_phrase}
 use Rattle.krb_ccache.specs.declared.open.CcOpenFault.{CcOpenFault}
 use Rattle.krb_ccache.specs.declared.open.CcOpenFault.TheVariants as opening
 use Rattle.krb_ccache.specs.Open.{open_fault_phrase}
-use Rattle.krb_c.specs.declared.text.KrbfBytes.{KrbfBytes}
-use Rattle.krb_c.specs.Text.{AreShown}
 
 -- the code of a refusal, by its status
 abbrev pub code_of : ℕ → Option Code
@@ -47,8 +45,3 @@ abbrev pub phrase_of : ℕ → Option (List ℕ)
 phrase_of n =
     option_or (option_map code_phrase (code_of n)) (option_or (option_map name_fault_phrase (name_fault_of n))
     (option_or (option_map open_fault_phrase (open_fault_of n)) (own_phrase n)))
-
--- what C is shown of a phrase: 39 if there is none
-abbrev pub ShowsPhrase : Option (List ℕ) → ℕ → KrbfBytes → KrbfBytes → Type 0
-ShowsPhrase (Some phrase) answer bytes new_bytes = (answer ≡ 0) × AreShown new_bytes phrase
-ShowsPhrase None answer bytes new_bytes = (answer ≡ 39) × (new_bytes ≡ bytes)

@@ -3,7 +3,8 @@ use Rattle.std.specs.Prelude.{◌≡◌, ◌⊎◌, ℕ, List, ◌++◌, length,
 use denote.RawPtr.{Ptr, null_ptr, InBlock}
 use Rattle.krb_wire.specs.declared.name_fault.NameFault.{NameFault}
 use Rattle.krb_wire.specs.Spelling.{Parts}
-use Rattle.krb_c.specs.Status.{name_status}
+use Rattle.krb_walk.specs.declared.refusal.Code.{Code}
+use Rattle.krb_c.specs.Status.{name_status, code_status}
 use Rattle.krb_c.specs.declared.text.KrbfBytes.{KrbfBytes}
 
 -- ---- bytes, and records
@@ -38,6 +39,16 @@ IsUnread (Err fault) status = status ≡ name_status fault
 abbrev pub ByName : (Parts → Type 0) → (ℕ → Type 0) → Result Parts NameFault → Type 0
 ByName Does Refuses (Ok name) = Does name ⊎ Refuses 1
 ByName Does Refuses (Err fault) = Refuses (name_status fault)
+
+-- a look-up shows what it finds, or returns why it finds nothing
+abbrev pub FindsOne : {Record Shown : Type 0} → (Shown → ℕ → Record → Type 0) → Result (ℕ × Record) Code → ℕ → Shown → Shown → Type 0
+FindsOne Shows (Ok found) status seen new_seen = (status ≡ 0) × Shows new_seen found.0 found.1
+FindsOne Shows (Err why) status seen new_seen = (status ≡ code_status why) × (new_seen ≡ seen)
+
+-- a look-up of the name in a text
+abbrev pub FindsNamed : {Record Shown : Type 0} → (Shown → ℕ → Record → Type 0) → (Parts → Result (ℕ × Record) Code) → Result Parts NameFault → ℕ → Shown → Shown → Type 0
+FindsNamed Shows found named status seen new_seen =
+    ByName (λ name. FindsOne Shows (found name) status seen new_seen) (λ why. (status ≡ why) × (new_seen ≡ seen)) named
 
 -- a buffer with as much of a text at its front as fits
 abbrev pub in_room : List ℕ → List ℕ → List ℕ

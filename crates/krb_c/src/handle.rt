@@ -106,13 +106,11 @@ impl Handle {
         requires { self.old.held ≡ None }
         ensures { ((result ≡ 0) × (self.new.held ≡ Some held)) ⊎ ((result ≡ 1) × (self.new.held ≡ None)) }
     {
-        match Box::new(alloc, held) {
-            Ok(held) => {
-                self.put(held);
-                DONE
-            }
-            Err(_) => NO_MEMORY,
-        }
+        let Ok(held) = Box::new(alloc, held) else {
+            return NO_MEMORY;
+        };
+        self.put(held);
+        DONE
     }
 
     /// Frees what is behind it, and leaves it empty. An empty one stays so.

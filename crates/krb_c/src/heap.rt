@@ -21,10 +21,7 @@ pub fn copied(alloc: Global, bytes: &[u8]) -> Result<Vec<u8, Heap>, u32>
     ensures ok { IfOk result (λ v. v.items ≡ bytes.now) }
     ensures err { IfErr result (λ s. s ≡ 1) }
 {
-    match Vec::from_slice(heap(alloc), bytes) {
-        Ok(copy) => Ok(copy),
-        Err(_) => Err(NO_MEMORY),
-    }
+    Vec::from_slice(heap(alloc), bytes).map_err(|_| NO_MEMORY)
 }
 
 /// Returns the limits for a number from C, or `None` if it is no limit. 0 means the usual limit.

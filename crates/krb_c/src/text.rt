@@ -69,12 +69,10 @@ fn put_text(room: &mut [u8], text: &[u8])
 pub fn copy_name<N: Name>(alloc: Global, name: &N, room: &mut [u8], len: &mut usize) -> u32
     ensures { CopiesText (name_text (N.parts name.now)) result room.old room.new len.old len.new }
 {
-    match text_of(alloc, name) {
-        Ok(text) => {
-            put_text(room, &text);
-            *len = text.len();
-            DONE
-        }
-        Err(NoMemory) => NO_MEMORY,
-    }
+    let Ok(text) = text_of(alloc, name) else {
+        return NO_MEMORY;
+    };
+    put_text(room, &text);
+    *len = text.len();
+    DONE
 }

@@ -6,15 +6,15 @@ pub use Rattle.std.proofs.lemmas.Result.{err_from_is_err_and}
 pub use Rattle.std.specs.Io.KnownBytes.{Appends, IsAtEnd, Keeps, Consumes}
 pub use Rattle.std.specs.List.{slice_split, cons_option, onto_first, concat, filter_map}
 pub use Rattle.std.specs.Prelude.{slice_range, IfSome, max, ◌&&◌, IsFalse, ◌||◌, if◌then◌else◌, OnOk, filter, option_map, OnErr, ◌==◌, reverse, is_err}
-pub use Rattle.krb_ktutil.specs.InputLines.{HasNone, Grows, lines_of, InputParts, last_line, IsFirst, EndsInNewline, TakesLine, HasLines, KeepsLines, IsWithin, without_empty_last, IsSpent, CutsOff, is_newline, HasNoMore, ReadsLine, with_newlines}
-pub use Rattle.krb_ktutil.specs.KtutilCommand.{Awaited, options_in, AwaitKey, asks_for_password, Command, WriteFile, after, command_of, ReadFile, with_option, columns_in, AddOptions, is_new_key, Skip, command_by, plain_columns, has_password, no_options, ClearList, ListSlots, Quit, DeleteSlot, awaited_of, AddWords, verb_of, words, unindented, size_from, word_size, is_gap, pieces, trimmed, parts, is_word, is_blank, asks_for_help, fault_error}
+pub use Rattle.krb_ktutil.specs.InputLines.{HasNone, Grows, lines_of, InputParts, IsFirst, IsWithin, IsSpent, CutsOff, is_newline, HasNoMore, ReadsLine, with_newlines}
+pub use Rattle.krb_ktutil.specs.KtutilCommand.{Awaited, options_in, AwaitKey, asks_for_password, Command, WriteFile, after, command_of, ReadFile, with_option, columns_in, AddOptions, is_new_key, Skip, command_by, plain_columns, has_password, no_options, ClearList, ListSlots, Quit, DeleteSlot, awaited_by, verb_of, words, unindented, size_from, word_size, trimmed, parts_from, is_word, is_blank, asks_for_help, fault_error}
 pub use Rattle.krb_ktutil.specs.KtutilPlan.{line_effect, EndsAt, IsCame, Spares, MakesLine, Tries, RefusesAdded, Attempts, RunsOut, Comes, KtutilState, with_added, Added, none_added, plan_of, Came, line_faults, fails, with_key, after_fault, with_entries, LinePlan, saved_as, words_plan, plan_by, command_plan, written_to, reading_plan, becomes, writing_plan, awaited_entry, more_added, key_line}
-pub use Rattle.krb_ktutil.specs.KtutilTalk.{Prompts, prompt_of, last_prompt, PromptsOn, Talk, first_talk, goes_on, HandlesLine, Continues, Stops, TalksOver, AreFirst, EndsTalk, RunsKtutil, TalkDue, DueReport, ReportsDue, quiet_run, final_report, line_report, last_due, due_after, run_of, talk_due, GivesLines, LeavesDue, LeavesDueUnlessFailed, TalksHonestly, HandlesNext}
+pub use Rattle.krb_ktutil.specs.KtutilTalk.{Prompts, prompt_of, last_prompt, PromptsOn, Talk, first_talk, goes_on, HandlesLine, Continues, Stops, TalksOver, AreFirst, EndsTalk, RunsKtutil, TalkDue, DueReport, ReportsDue, quiet_run, final_prompt, final_report, line_report, last_due, due_after, run_of, talk_due, GivesLines, LeavesDue, LeavesDueUnlessFailed, TalksHonestly, HandlesNext}
 pub use Rattle.krb_ktutil.specs.declared.ktutil.awaiting.Awaiting.{Awaiting}
 pub use Rattle.krb_ktutil.specs.declared.ktutil.awaiting.Awaiting.TheVariants.{Nothing, Password, Key}
 pub use Rattle.krb_driver.proofs.Shown.{end_status-none, Writes-nothing, ReportsEnd-nothing}
 pub use Rattle.krb_driver.specs.Commands.{Fails, Effect}
-pub use Rattle.krb_driver.specs.Runs.{ErrorWatch, Reports, Run, WritesOn, ends_by, Shows}
+pub use Rattle.krb_driver.specs.Runs.{ErrorWatch, Reports, ReportsEnd, Run, WritesOn, ends_by, Shows}
 pub use Rattle.krb_driver.specs.FileNames.{is_other_type, bare_name, has_type}
 pub use Rattle.krb_driver.specs.Loading.{keytab_or_new, keytab_of, Gives, result_map, GivesOrRunsOut}
 pub use Rattle.krb_driver.specs.RunErrors.{error_status, input_error, is_spent, no_keytab_error, Ending, end_status}

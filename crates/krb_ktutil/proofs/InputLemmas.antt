@@ -1,5 +1,6 @@
 -- Lines that were read from an input, which is split at newlines.
-use Rattle.krb_ktutil.proofs.Cited.{◌≡◌, ℕ, ◌+◌, ◌-◌, ◌<◌, ◌≤◌, List, [], ◌∷◌, ◌++◌, length, take, drop, Option, Some, None, refl, sym, ap, subst, ◌∙◌, arith, length-append, append_assoc, append-nil, take-add, slice_range, lines_of, HasNone, Grows, drop-drop, slice_split, Keeps, take-append-drop, take-take, is_newline, last_line, without_empty_last, IsFirst, inl, inr, IfSome, length-drop, nat_lt, IsAtEnd, take_all, take-append-le, length-take-le, drop_all, drop-append-le, lt-ltb, le-ltb, InputParts, HasLines, ReadsLine, TakesLine, EndsInNewline, AreFirst, nil_from_length, length-slice_split, common_steps, Consumes-trans, take-append_seam, leb_tells}
+use Rattle.krb_ktutil.proofs.Cited.{onto_first, ◌≡◌, ℕ, ◌+◌, ◌-◌, ◌<◌, ◌≤◌, List, [], ◌∷◌, ◌++◌, length, take, drop, Option, Some, None, refl, sym, ap, subst, ◌∙◌, arith, length-append, append_assoc, append-nil, take-add, slice_range, lines_of, HasNone, Grows, drop-drop, Keeps, take-append-drop, take-take, is_newline, IsFirst, inl, inr, IfSome, length-drop, nat_lt, IsAtEnd, take_all, take-append-le, length-take-le, drop_all, drop-append-le, lt-ltb, le-ltb, InputParts, ReadsLine, AreFirst, nil_from_length, common_steps, Consumes-trans, take-append_seam, leb_tells, Bool, true, false, Consumes, with_newlines, flat_map-append, IsSpent, IsWithin, HasNoMore, CutsOff, most_bytes, ◌⊎◌, false≢true, nat_tests}
+use Rattle.std.specs.List.{AllByRecursion}
 use Rattle.std.proofs.lemmas.List.Folds.{drop_split}
 
 -- ---- bytes that grow
@@ -83,28 +84,16 @@ first-within xs a b first =
 
 -- ---- lines
 
--- the first piece ends at the first newline
-split_at : (xs ys : List ℕ) → HasNone xs → slice_split is_newline (xs ++ 10 ∷ ys) ≡ xs ∷ slice_split is_newline ys
-split_at [] ys h = refl
-split_at (x ∷ xs) ys h = rw (h.0, split_at xs ys h.1) refl
-
--- without a newline there is one piece
-split_none : (xs : List ℕ) → HasNone xs → slice_split is_newline xs ≡ xs ∷ []
-split_none [] h = refl
-split_none (x ∷ xs) h = rw (h.0, split_none xs h.1) refl
-
--- a piece before others is a line
-line_before : (xs : List ℕ) (pieces : List (List ℕ)) → 0 < length pieces → without_empty_last (xs ∷ pieces) ≡ xs ∷ without_empty_last pieces
-line_before xs [] h = absurd (omega (arith, h))
-line_before xs (p ∷ ps) h = refl
-
 -- the first line ends at the first newline
-pub lines-first : (xs ys : List ℕ) → HasNone xs → lines_of (xs ++ 10 ∷ ys) ≡ xs ∷ lines_of ys
-lines-first xs ys h = ap without_empty_last (split_at xs ys h) ∙ line_before xs (slice_split is_newline ys) (omega (arith, length-slice_split is_newline ys))
+lines-first : (xs ys : List ℕ) → HasNone xs → lines_of (xs ++ 10 ∷ ys) ≡ xs ∷ lines_of ys
+lines-first [] ys h = refl
+lines-first (x ∷ xs) ys h = rw h.0 (ap (onto_first x) (lines-first xs ys h.1))
 
 -- without a newline the bytes are one line, if there are any
-pub lines-last : (xs : List ℕ) → HasNone xs → lines_of xs ≡ last_line xs
-lines-last xs h = ap without_empty_last (split_none xs h)
+line-alone : (line : List ℕ) → HasNone line → 0 < length line → lines_of line ≡ line ∷ []
+line-alone [] h some = absurd (omega (arith, some))
+line-alone (b ∷ []) h some = rw h.0 refl
+line-alone (b ∷ c ∷ bs) h some = rw h.0 (ap (onto_first b) (line-alone (c ∷ bs) h.1 (omega arith)))
 
 -- a read that gave no byte has left the bytes as they were
 pub none-given : (old new given : List ℕ) → new ≡ old ++ given → length new ≡ length old → new ≡ old
@@ -115,46 +104,11 @@ none-given old new given e same =
 -- what a read leaves of the search for a newline
 pub ruleset newlines = (IsFirst-earlier, HasNone-earlier, Grows-none, Grows-trans, none-given)
 
--- ---- lines that were read from an input
-
--- the bytes to come from a place on are the same after a read
-pub to_come : (old new xs ys : List ℕ) (next : ℕ) → next ≤ length old → Grows old new (Some xs) (Some ys) → drop next old ++ xs ≡ drop next new ++ ys
-to_come old new xs ys next le grows =
-    ap (λ (bs : List ℕ). drop next old ++ bs) grows.consumes
-    ∙ sym (append_assoc (drop next old) grows.given ys)
-    ∙ ap (λ (bs : List ℕ). bs ++ ys) (sym (drop-append-le next old grows.given le) ∙ ap (drop next) (sym grows.read))
+-- ---- a line that was read
 
 -- the bytes from a place on, whose first newline is at another
 first_parts : (xs : List ℕ) (a b : ℕ) → IsFirst xs a b → drop a xs ≡ slice_range xs a b ++ 10 ∷ drop (b + 1) xs
 first_parts xs a b first = drop_split xs a b first.ahead ∙ ap (λ (ys : List ℕ). slice_range xs a b ++ ys) first.rest
-
--- the line up to a newline comes first
-line-first : (old new : List ℕ) (next end : ℕ) (left left' : Option (List ℕ)) (lines : List (List ℕ)) → next ≤ length old → IsFirst new next end → Grows old new left left'
-    → IfSome left' (λ bytes. lines_of (drop (end + 1) new ++ bytes) ≡ lines)
-    → IfSome left (λ bytes. lines_of (drop next old ++ bytes) ≡ slice_range new next end ∷ lines)
-line-first old new next end None left' lines le first grows h = tt
-line-first old new next end (Some xs) None lines le first grows h = absurd grows.consumes
-line-first old new next end (Some xs) (Some ys) lines le first grows h =
-    ap lines_of (to_come old new xs ys next le grows ∙ ap (λ (bs : List ℕ). bs ++ ys) (first_parts new next end first) ∙ append_assoc (slice_range new next end) (10 ∷ drop (end + 1) new) ys)
-    ∙ lines-first (slice_range new next end) (drop (end + 1) new ++ ys) first.before
-    ∙ ap (λ (others : List (List ℕ)). slice_range new next end ∷ others) h
-
--- what is left at the end of the input is one line, if it is not empty
-line-last : (old new : List ℕ) (next : ℕ) (left left' : Option (List ℕ)) → next ≤ length old → HasNone (drop next new) → IsAtEnd left' → Grows old new left left'
-    → IfSome left (λ bytes. lines_of (drop next old ++ bytes) ≡ last_line (drop next new))
-line-last old new next None left' le none end grows = tt
-line-last old new next (Some xs) None le none end grows = absurd grows.consumes
-line-last old new next (Some xs) (Some ys) le none end grows =
-    ap lines_of (to_come old new xs ys next le grows ∙ ap (λ (bs : List ℕ). drop next new ++ bs) end ∙ append-nil (drop next new))
-    ∙ lines-last (drop next new) none
-
--- a line was read up to a newline
-pub TakesLine-first : (old new : InputParts) (left left' : Option (List ℕ)) (end : ℕ) → old.next ≤ length old.read → IsFirst new.read old.next end → Grows old.read new.read left left'
-    → new.line ≡ slice_range new.read old.next end → new.next ≡ end + 1 → TakesLine old new left left'
-TakesLine-first old new left left' end le is grows line next = record {
-  first = λ lines h. rw line (line-first old.read new.read old.next end left left' lines le is grows (rw next at h));
-  further = (let ahead = is.ahead in omega (arith, ahead, next));
-}
 
 -- a text and one more byte
 take_more : (xs ys : List ℕ) (b n : ℕ) → n ≡ length xs + 1 → take n (xs ++ b ∷ ys) ≡ xs ++ b ∷ []
@@ -172,65 +126,32 @@ up_to_newline xs a end first =
     ∙ ap (λ (bs : List ℕ). take a xs ++ take (end + 1 - a) bs) (first_parts xs a end first)
     ∙ ap (λ (bs : List ℕ). take a xs ++ bs) (take_more (slice_range xs a end) (drop (end + 1) xs) 10 (end + 1 - a) (omega (arith, ahead, length-take-le (end - a) (drop a xs) long)))
 
--- the line that was read ended at the newline
-pub EndsInNewline-first : (old new : InputParts) (left left' : Option (List ℕ)) (end : ℕ) → old.next ≤ length old.read → IsFirst new.read old.next end → Grows old.read new.read left left'
-    → new.line ≡ slice_range new.read old.next end → new.next ≡ end + 1 → end < 16777216 → EndsInNewline old new
-EndsInNewline-first old new left left' end le is grows line next most =
+-- a line was read up to a newline
+pub ReadsLine-first : (old new : InputParts) (left left' : Option (List ℕ)) (end : ℕ) → old.next ≤ length old.read → IsFirst new.read old.next end → Grows old.read new.read left left'
+    → new.line ≡ slice_range new.read old.next end → new.next ≡ end + 1 → end < 16777216 → ReadsLine true old new left'
+ReadsLine-first old new left left' end le is grows line next most =
     let front : take old.next new.read ≡ take old.next old.read = ap (take old.next) grows.read ∙ take-append-le old.next old.read grows.given le in
     record {
-      within = omega (arith, next, most);
-      read = ap (λ (n : ℕ). take n new.read) next ∙ up_to_newline new.read old.next end is
-          ∙ ap (λ (bs : List ℕ). bs ++ (slice_range new.read old.next end ++ 10 ∷ [])) front ∙ ap (λ (l : List ℕ). take old.next old.read ++ (l ++ 10 ∷ [])) (sym line);
+      further = sym (lt-ltb old.next new.next (let ahead = is.ahead in omega (arith, ahead, next)));
+      none = rw line is.before;
+      ends = inl (
+        refl,
+        record {
+          within = omega (arith, next, most);
+          read = ap (λ (n : ℕ). take n new.read) next ∙ up_to_newline new.read old.next end is
+              ∙ ap (λ (bs : List ℕ). bs ++ (slice_range new.read old.next end ++ 10 ∷ [])) front ∙ ap (λ (l : List ℕ). take old.next old.read ++ (l ++ 10 ∷ [])) (sym line);
+        },
+      );
     }
 
--- the bytes from a place to the end
-to_end : (xs : List ℕ) (a : ℕ) → slice_range xs a (length xs) ≡ drop a xs
-to_end xs a = take_all (length xs - a) (drop a xs) (omega (arith, length-drop a xs))
-
--- a last line that has a byte
-last_is : (line : List ℕ) → 0 < length line → last_line line ≡ line ∷ []
-last_is [] h = absurd (omega (arith, h))
-last_is (b ∷ bs) h = refl
-
--- no line is to come at the end
-no_more : (read ys : List ℕ) (next : ℕ) (lines : List (List ℕ)) → ys ≡ [] → next ≡ length read → lines_of (drop next read ++ ys) ≡ lines → lines ≡ []
-no_more read ys next lines end is h =
-    let none : drop next read ≡ [] = drop_all next read (omega (arith, is)) in
-    let both : drop next read ++ ys ≡ [] = rw (none, end) refl in
-    sym h ∙ ap lines_of both
-
--- the last line is the one that was to come
-last_first : (old new : InputParts) (left left' : Option (List ℕ)) (lines : List (List ℕ)) → old.next ≤ length old.read → HasNone (drop old.next new.read) → IsAtEnd left' → Grows old.read new.read left left'
-    → new.line ≡ drop old.next new.read → new.next ≡ length new.read → old.next < length new.read → HasLines new left' lines → HasLines old left (new.line ∷ lines)
-last_first old new None left' lines le none end grows line next lt h = tt
-last_first old new (Some xs) None lines le none end grows line next lt h = absurd grows.consumes
-last_first old new (Some xs) (Some ys) lines le none end grows line next lt h =
-    line-last old.read new.read old.next (Some xs) (Some ys) le none end grows
-    ∙ last_is (drop old.next new.read) (omega (arith, lt, length-drop old.next new.read))
-    ∙ rw (line, no_more new.read ys new.next lines end next h) refl
-
--- what is left is a line
-TakesLine-last : (old new : InputParts) (left left' : Option (List ℕ)) → old.next ≤ length old.read → HasNone (drop old.next new.read) → IsAtEnd left' → Grows old.read new.read left left'
-    → new.line ≡ drop old.next new.read → new.next ≡ length new.read → old.next < length new.read → TakesLine old new left left'
-TakesLine-last old new left left' le none end grows line next lt = record {
-  first = λ lines h. last_first old new left left' lines le none end grows line next lt h;
-  further = omega (arith, next, lt);
-}
-
--- nothing is left
-nothing_left : (old new : InputParts) (left left' : Option (List ℕ)) → old.next ≤ length old.read → HasNone (drop old.next new.read) → IsAtEnd left' → Grows old.read new.read left left'
-    → length new.read ≤ old.next → HasLines old left []
-nothing_left old new left left' le none end grows all =
-    let is = line-last old.read new.read old.next left left' le none end grows in
-    rw (drop_all old.next new.read all) at is
-
 -- what is left at the end of the input is a line, or nothing is left
-pub ReadsLine-last : (old new : InputParts) (left left' : Option (List ℕ)) → old.next ≤ length old.read → HasNone (drop old.next new.read) → IsAtEnd left' → Grows old.read new.read left left'
-    → new.line ≡ slice_range new.read old.next (length new.read) → new.next ≡ length new.read → ReadsLine (nat_lt old.next (length new.read)) old new left left'
-ReadsLine-last old new left left' le none end grows line next = elim (leb_tells (length new.read) old.next) [
-  | inl y ↦ rw (le-ltb old.next (length new.read) y.1) (nothing_left old new left left' le none end grows y.1)
-  | inr n ↦ rw (lt-ltb old.next (length new.read) n.1) (TakesLine-last old new left left' le none end grows (line ∙ to_end new.read old.next) next n.1)
-]
+pub ReadsLine-last : (old new : InputParts) (left : Option (List ℕ)) → HasNone (drop old.next new.read) → IsAtEnd left
+    → new.line ≡ slice_range new.read old.next (length new.read) → new.next ≡ length new.read → ReadsLine (nat_lt old.next (length new.read)) old new left
+ReadsLine-last old new left none end line next =
+    let rest : new.line ≡ drop old.next new.read = line ∙ take_all (length new.read - old.next) (drop old.next new.read) (omega (arith, length-drop old.next new.read)) in
+    record { further = rw next refl; none = rw rest none; ends = inr (record { at_end = end; all = next }, rest) }
+
+-- ---- the lines of an input
 
 -- an input has these lines and no more
 abbrev pub AreLines : Option (List ℕ) → List (List ℕ) → Type 0
@@ -245,3 +166,118 @@ lines_after (Some bytes) lines first = first
 pub are_first : (given : Option (List ℕ)) (lines more : List (List ℕ)) → AreLines given (lines ++ more) → AreFirst lines given
 are_first None lines more is = tt
 are_first (Some bytes) lines more is = (more, is)
+
+-- the lines of a text that begins with lines, each with its newline
+lines_begin : (lines : List (List ℕ)) (rest : List ℕ) → AllByRecursion HasNone lines → lines_of (with_newlines lines ++ rest) ≡ lines ++ lines_of rest
+lines_begin [] rest h = refl
+lines_begin (line ∷ lines) rest h =
+    ap lines_of (append_assoc (line ++ 10 ∷ []) (with_newlines lines) rest ∙ append_assoc line (10 ∷ []) (with_newlines lines ++ rest))
+    ∙ lines-first line (with_newlines lines ++ rest) h.0
+    ∙ ap (λ (others : List (List ℕ)). line ∷ others) (lines_begin lines rest h.1)
+
+-- one more line with its newline
+newline_more : (lines : List (List ℕ)) (line : List ℕ) → with_newlines (lines ++ line ∷ []) ≡ with_newlines lines ++ (line ++ 10 ∷ [])
+newline_more lines line = flat_map-append (λ l. l ++ 10 ∷ []) lines (line ∷ []) ∙ ap (λ (bs : List ℕ). with_newlines lines ++ bs) (append-nil (line ++ 10 ∷ []))
+
+none_more : (lines : List (List ℕ)) (line : List ℕ) → AllByRecursion HasNone lines → HasNone line → AllByRecursion HasNone (lines ++ line ∷ [])
+none_more [] line h k = (k, tt)
+none_more (first ∷ lines) line h k = (h.0, none_more lines line h.1 k)
+
+-- what was read up to the next line is these lines, each with its newline
+pub record AreEnded (lines : List (List ℕ)) (input : InputParts) : Type 0 where
+  pub within : input.next ≤ 16777216
+  pub read : take input.next input.read ≡ with_newlines lines
+  pub none : AllByRecursion HasNone lines
+
+-- that, or an input that is known has ended, and these are all its lines
+abbrev pub HasRead : Option (List ℕ) → List (List ℕ) → InputParts → Option (List ℕ) → Type 0
+HasRead given lines input left = AreEnded lines input ⊎ IfSome given (λ bytes. (lines_of bytes ≡ lines) × IsSpent input left)
+
+pub if_some : {P Q : List ℕ → Type 0} (given : Option (List ℕ)) → ((bytes : List ℕ) → P bytes → Q bytes) → IfSome given P → IfSome given Q
+if_some None f h = tt
+if_some (Some bytes) f h = f bytes h
+
+-- what is known of an input is what was read of it and what is left
+pub consumed_as : (given left : Option (List ℕ)) (read : List ℕ) → Consumes given left read → IfSome given (λ bytes. (more : List ℕ) × ((left ≡ Some more) × (bytes ≡ read ++ more)))
+consumed_as None left read consumes = tt
+consumed_as (Some bytes) None read consumes = absurd consumes
+consumed_as (Some bytes) (Some more) read consumes = (more, (refl, consumes))
+
+lines_come : (lines : List (List ℕ)) (bytes read rest more : List ℕ) → bytes ≡ read ++ more → read ≡ with_newlines lines ++ rest → AllByRecursion HasNone lines → lines_of bytes ≡ lines ++ lines_of (rest ++ more)
+lines_come lines bytes read rest more is parts none =
+    ap lines_of (is ∙ ap (λ (bs : List ℕ). bs ++ more) parts ∙ append_assoc (with_newlines lines) rest more) ∙ lines_begin lines (rest ++ more) none
+
+-- the lines that were read are the first of the input
+pub HasRead-first : (given : Option (List ℕ)) (lines : List (List ℕ)) (input : InputParts) (left : Option (List ℕ)) → HasRead given lines input left → Consumes given left input.read → AreFirst lines given
+HasRead-first given lines input left (inr all) consumes = if_some given (λ bytes is. ([], is.0 ∙ sym (append-nil lines))) all
+HasRead-first given lines input left (inl ended) consumes =
+    let rest = drop input.next input.read in
+    let parts = sym (take-append-drop input.next input.read) ∙ ap (λ (bs : List ℕ). bs ++ rest) ended.read in
+    if_some given (λ bytes c. (lines_of (rest ++ c.0), lines_come lines bytes input.read rest c.0 c.1.1 parts ended.none)) (consumed_as given left input.read consumes)
+
+-- after its end an input that is known gives no line
+no_further : (given left left' : Option (List ℕ)) (old new : InputParts) (P Q : List ℕ → Type 0) → Consumes given left old.read → IfSome given (λ bytes. P bytes × IsSpent old left) → Grows old.read new.read left left' → old.next < length new.read → IfSome given Q
+no_further None left left' old new P Q consumes all grows more = tt
+no_further (Some bytes) None left' old new P Q consumes all grows more = absurd consumes
+no_further (Some bytes) (Some xs) None old new P Q consumes all grows more = absurd grows.consumes
+no_further (Some bytes) (Some xs) (Some ys) old new P Q consumes all grows more =
+    let none : length (grows.given ++ ys) ≡ 0 = ap length (sym grows.consumes ∙ all.1.at_end) in
+    let read = all.1.all in
+    absurd (omega (arith, more, none, read, ap length grows.read, length-append old.read grows.given, length-append grows.given ys))
+
+-- an input is read further
+module _ (given left left' : Option (List ℕ)) (lines : List (List ℕ)) (old new : InputParts) (within : IsWithin old) (consumes : Consumes given left old.read) (grows : Grows old.read new.read left left') where
+  pub consumed : Consumes given left' new.read
+  consumed = subst (Consumes given left') (sym grows.read) (Consumes-trans given left left' old.read grows.given consumes grows.consumes)
+
+  front : take old.next new.read ≡ take old.next old.read
+  front = ap (take old.next) grows.read ∙ take-append-le old.next old.read grows.given within.next
+
+  rest_lines : AreEnded lines old → IsAtEnd left' → AreLines given (lines ++ lines_of (drop old.next new.read))
+  rest_lines ended end =
+      let rest = drop old.next new.read in
+      let parts = sym (take-append-drop old.next new.read) ∙ ap (λ (bs : List ℕ). bs ++ rest) (front ∙ ended.read) in
+      if_some given (λ bytes c.
+      lines_come lines bytes new.read rest c.0 c.1.1 parts ended.none
+      ∙ ap (λ (bs : List ℕ). lines ++ lines_of (rest ++ bs)) (subst IsAtEnd c.1.0 end) ∙ ap (λ (bs : List ℕ). lines ++ lines_of bs) (append-nil rest))
+      (consumed_as given left' new.read consumed)
+
+  -- one more line was read
+  pub HasRead-line : ReadsLine true old new left' → IsWithin new → HasRead given lines old left → HasRead given (lines ++ new.line ∷ []) new left'
+  HasRead-line reads within' has =
+      let lt : old.next < new.next = grind (arith, nat_tests, reads.further) in
+      elim has [
+        | inl before ↦ elim reads.ends [
+          | inl newline ↦ inl (record {
+            within = newline.1.within;
+            read = newline.1.read ∙ ap (λ (bs : List ℕ). bs ++ (new.line ++ 10 ∷ [])) before.read ∙ sym (newline_more lines new.line);
+            none = none_more lines new.line before.none reads.none;
+          })
+          | inr last ↦
+              let some : 0 < length new.line = (let all = last.0.all in rw last.1 omega (arith, lt, all, length-drop old.next new.read)) in
+              inr (if_some given (λ bytes is. (is ∙ ap (λ (l : List (List ℕ)). lines ++ l) (ap lines_of (sym last.1) ∙ line-alone new.line reads.none some), last.0)) (rest_lines before last.0.at_end))
+        ]
+        | inr all ↦ inr (no_further given left left' old new (λ bytes. lines_of bytes ≡ lines) _ consumes all grows (omega (arith, lt, within'.next)))
+      ]
+
+  -- there was no further line
+  pub HasRead-end : ReadsLine false old new left' → HasRead given lines old left → AreLines given lines
+  HasRead-end reads (inr all) = if_some given (λ bytes is. is.0) all
+  HasRead-end reads (inl before) = elim reads.ends [
+    | inl newline ↦ absurd (false≢true newline.0)
+    | inr last ↦
+        let le : new.next ≤ old.next = grind (arith, nat_tests, reads.further) in
+        let nothing : drop old.next new.read ≡ [] = (let all = last.0.all in drop_all old.next new.read (omega (arith, le, all))) in
+        subst (AreLines given) (ap (λ (bs : List ℕ). lines ++ lines_of bs) nothing ∙ append-nil lines) (rest_lines before last.0.at_end)
+  ]
+
+  -- of what was read each line that has its newline was run
+  pub due_of : HasNoMore old new → AreEnded lines old → CutsOff lines (take most_bytes new.read)
+  due_of no_more ended =
+      let sum : most_bytes ≡ old.next + (most_bytes - old.next) = omega (arith, ended.within) in
+      record {
+        rest = slice_range new.read old.next most_bytes;
+        none = subst (λ (n : ℕ). HasNone (slice_range new.read n most_bytes)) no_more.same no_more.none;
+        bytes_are = ap (λ (n : ℕ). take n new.read) sum ∙ take-add old.next (most_bytes - old.next) new.read
+            ∙ ap (λ (bs : List ℕ). bs ++ slice_range new.read old.next most_bytes) (front ∙ ended.read);
+      }

@@ -1,5 +1,5 @@
 -- The lines of ktutil leave what is due over honest files.
-use Rattle.krb_ktutil.proofs.Cited.{◌≡◌, ◌⊎◌, inl, inr, ℕ, ◌+◌, ◌≤◌, Bool, true, false, List, [], ◌∷◌, ◌++◌, length, refl, sym, ap, subst, ◌∙◌, append_assoc, append-nil, arith, not, max, ◌&&◌, Option, None, Some, Err, false≢true, Ghosts, Watch, Effect, Fails, ErrorWatch, input_error, error_status, IsCame, Came, KtutilState, line_faults, plan_of, Prompts, Talk, goes_on, HandlesLine, IsFalse, if◌then◌else◌, Appends, true≢false, follow, Run, Reports, Shows, ends_by, Ending, is_spent, ReportsEnd-nothing, Spares, prompt_of, last_prompt, AreFirst, Continues, Stops, TalksOver, LoadFault, FileMap, SameFiles, CountsFailure, count-more, count-trans, same-trans, Appends-nil, Appends-trans, NoMemory, Details, finishes-lasts, cond_both, TalkDue, DueReport, ReportsDue, quiet_run, final_report, line_report, last_due, due_after, run_of, talk_due, GivesLines, LeavesDue, LeavesDueUnlessFailed, TalksHonestly}
+use Rattle.krb_ktutil.proofs.Cited.{◌≡◌, ◌⊎◌, inl, inr, ℕ, ◌+◌, ◌≤◌, Bool, true, false, List, [], ◌∷◌, ◌++◌, length, refl, sym, ap, subst, ◌∙◌, append_assoc, append-nil, arith, not, max, ◌&&◌, Option, None, Some, Err, false≢true, Ghosts, Watch, Effect, Fails, ErrorWatch, input_error, error_status, IsCame, Came, KtutilState, line_faults, plan_of, Prompts, Talk, goes_on, HandlesLine, IsFalse, if◌then◌else◌, Appends, true≢false, follow, Run, Reports, Shows, ends_by, Ending, is_spent, ReportsEnd-nothing, Spares, prompt_of, AreFirst, Continues, Stops, TalksOver, LoadFault, FileMap, SameFiles, CountsFailure, count-more, count-trans, same-trans, Appends-nil, Appends-trans, NoMemory, Details, finishes-lasts, cond_both, TalkDue, DueReport, ReportsDue, quiet_run, final_report, line_report, last_due, due_after, run_of, talk_due, GivesLines, LeavesDue, LeavesDueUnlessFailed, TalksHonestly, Source, EndsTalk, end_status-none, final_prompt}
 use Rattle.std.proofs.Math.Bool.{and-false}
 use mathlib.Core.Path.{fun_ext}
 use Rattle.krb_files.specs.declared.aftermath.Aftermath.{Aftermath}
@@ -10,38 +10,30 @@ use Rattle.krb_ktutil.proofs.KtutilDue.{Came-due, line_lasts, makes_due, makes_l
 
 -- ---- what is left
 
--- a run was printed and reported after its prompt
-record IsShown {F : Type 0} (prompts : Bool) (out : List ℕ) (report : DueReport) (old new : Talk F) : Type 0 where
-  asked : ErrorWatch
-  status : ℕ
-  prompted : Prompts prompts report.prompt old.err asked
-  printed : Appends old.out.contents new.out.contents out
-  reported : ReportsDue report asked new.err status
-  worst : new.status ≡ max old.status status
-
 module _ {F : Type 0} (trait : Ghosts F) (prompts : Bool) where
-  module _ (out : List ℕ) (report : DueReport) (old mid : Talk F) (shown : IsShown prompts out report old mid) where
-    -- what is due after the following lines was left
-    leaves_first : (due : TalkDue) (new : Talk F) → LeavesDue trait prompts due mid new → LeavesDue trait prompts (due_after out report due) old new
-    leaves_first due new leaves =
-        record {
-          files = leaves.files;
-          out = Appends-trans old.out.contents mid.out.contents new.out.contents out due.out shown.printed leaves.out;
-          worst = max shown.status leaves.worst;
-          err = (shown.asked, mid.err, shown.status, leaves.worst, (shown.prompted, (shown.reported, (leaves.err, refl))));
-          status = omega (arith, shown.worst, leaves.status);
-        }
+  -- a run was printed and reported after its prompt, and left these files
+  leaves_one : (out : List ℕ) (report : DueReport) (files : FileMap) (old new : Talk F) (asked : ErrorWatch) (status : ℕ) → SameFiles files (trait.file new.files) → Prompts prompts report.prompt old.err asked
+      → Appends old.out.contents new.out.contents out → ReportsDue report asked new.err status → new.status ≡ max old.status status → LeavesDue trait prompts (last_due out report files) old new
+  leaves_one out report files old new asked status same prompted printed reported worst = record {
+    files = same;
+    out = printed;
+    worst = max status 0;
+    err = (asked, new.err, status, 0, (prompted, (reported, ((refl, refl), refl))));
+    status = omega (arith, worst);
+  }
 
-    -- no line follows
-    leaves_last : (files : FileMap) → SameFiles files (trait.file mid.files) → LeavesDue trait prompts (last_due out report files) old mid
-    leaves_last files same =
-        record {
-          files = same;
-          out = shown.printed;
-          worst = max shown.status 0;
-          err = (shown.asked, mid.err, shown.status, 0, (shown.prompted, (shown.reported, ((refl, refl), refl))));
-          status = omega (arith, shown.worst);
-        }
+  -- after it what is due then was left
+  leaves_first : (out : List ℕ) (report : DueReport) (files : FileMap) (old mid : Talk F) → LeavesDue trait prompts (last_due out report files) old mid → (due : TalkDue) (new : Talk F) → LeavesDue trait prompts due mid new → LeavesDue trait prompts (due_after out report due) old new
+  leaves_first out report files old mid first due new leaves =
+      let e = first.err in
+      let ended = e.4.1.1 in
+      record {
+        files = leaves.files;
+        out = Appends-trans old.out.contents mid.out.contents new.out.contents out due.out first.out leaves.out;
+        worst = max e.2 leaves.worst;
+        err = (e.0, mid.err, e.2, leaves.worst, (e.4.0, (subst (λ (w : ErrorWatch). ReportsDue report e.0 w e.2) (sym ended.0.0) e.4.1.0, (leaves.err, refl))));
+        status = omega (arith, first.status, leaves.status, ended.0.1, ended.1);
+      }
 
   -- the output may have failed
   unless_failed : (due : TalkDue) (old new : Talk F) (failed : Bool) → failed ≡ new.out.failed → (IsFalse new.out.failed → LeavesDue trait prompts due old new) → LeavesDueUnlessFailed trait prompts due old new
@@ -111,50 +103,37 @@ module _ {F : Type 0} (trait : Ghosts F) (prompts : Bool) (now number : ℕ) (li
       let saves = is_save handles.effect && not (is_spent handles.end.ending) in
       f.left_behind ∙ ap (reported_aftermath (Some number) handles.effect handles.end.ending) (f.honest (handles_lasts.0 honest)) ∙ cond_both saves None None (λ (a : Option Aftermath). a ≡ None) (λ _. refl) (λ _. refl)
 
-  -- what is due was printed and reported
-  shown_due : trait.is_honest old.files → LineDue → IsFalse new.out.failed → (goes_on handles.quits handles.end.ending ≡ goes_on due.quits (run_of due.effect).ending) × IsShown prompts (run_of due.effect).out (line_report old.state.awaiting number due.effect) old new
-  shown_due honest is well =
+  -- an effect was printed and reported
+  shown : trait.is_honest old.files → (effect : Effect) (before after : KtutilState) → Spares before after effect → handles.finishes.left ≡ settled effect → IsFalse new.out.failed
+      → (handles.end.ending ≡ (run_of effect).ending) × (Appends old.out.contents new.out.contents (run_of effect).out × ReportsDue (line_report old.state.awaiting number effect) asked new.err handles.end.status)
+  shown honest effect before after spares left well =
       let f = handles.finishes in
       let end = handles.end in
-      let spares = subst (Spares old.state new.state) is.0.effect_is handles.spares in
-      let done = (shows-run old.out new.out end.ending old.state new.state due.effect spares (subst (ShowsEnd old.out new.out end.ending) is.1.0 f.shown)).done well in
-      let reported = subst (λ (file : List ℕ). Reports file (Some number) f.details end.ending asked new.err end.status) (ap about is.1.0 ∙ about-settled due.effect) f.reported in (
-        ap (λ (quits : Bool). goes_on quits end.ending) is.0.quits_is ∙ ap (goes_on due.quits) done.1,
-        record {
-          asked = asked;
-          status = end.status;
-          prompted = prompted;
-          printed = done.0;
-          reported = record {
-            details = f.details;
-            reported = subst (λ (e : Ending). Reports (about due.effect) (Some number) f.details e asked new.err end.status) done.1 reported;
-            untold = left_nothing honest;
-          };
-          worst = handles.worst;
-        },
+      let done = (shows-run old.out new.out end.ending before after effect spares (subst (ShowsEnd old.out new.out end.ending) left f.shown)).done well in
+      let reported = subst (λ (file : List ℕ). Reports file (Some number) f.details end.ending asked new.err end.status) (ap about left ∙ about-settled effect) f.reported in
+      (done.1, (done.0, record { details = f.details; reported = subst (λ (e : Ending). Reports (about effect) (Some number) f.details e asked new.err end.status) done.1 reported; untold = left_nothing honest }))
+
+  -- what is due was left
+  leaves_due : trait.is_honest old.files → LineDue → IsFalse new.out.failed
+      → (goes_on handles.quits handles.end.ending ≡ goes_on due.quits (run_of due.effect).ending) × LeavesDue trait prompts (last_due (run_of due.effect).out (line_report old.state.awaiting number due.effect) (files_after (trait.file old.files) due.effect)) old new
+  leaves_due honest is well =
+      let s = shown honest due.effect old.state new.state (subst (Spares old.state new.state) is.0.effect_is handles.spares) is.1.0 well in (
+        ap (λ (quits : Bool). goes_on quits handles.end.ending) is.0.quits_is ∙ ap (goes_on due.quits) s.0,
+        leaves_one trait prompts (run_of due.effect).out (line_report old.state.awaiting number due.effect) (files_after (trait.file old.files) due.effect) old new asked handles.end.status is.1.1 prompted s.1.0 s.1.1 handles.worst,
       )
 
   -- that memory ran out was reported
-  shown_spent : trait.is_honest old.files → LineSpent → IsFalse new.out.failed → (handles.end.ending ≡ Err NoMemory) × IsShown prompts [] (final_report old.state.awaiting (ends_by NoMemory)) old new
-  shown_spent honest spent well =
-      let f = handles.finishes in
-      let end = handles.end in
-      let done = (subst (ShowsEnd old.out new.out end.ending) spent.1.1 f.shown).done well in
-      let reported = subst (λ (e : Ending). Reports (about f.left) (Some number) f.details e asked new.err end.status) done.1 f.reported in
-      let bare = subst (λ (a : Option Aftermath). Reports (about f.left) (Some number) (record f.details { aftermath = a }) (Err NoMemory) asked new.err end.status) (left_nothing honest) reported in (
-        done.1,
-        record {
-          asked = asked;
-          status = end.status;
-          prompted = prompted;
-          printed = done.0;
-          reported = record {
-            details = record f.details { aftermath = None };
-            reported = record { reports = record { writes = bare.reports.writes; still = bare.reports.still }; status_is = bare.status_is };
-            untold = refl;
-          };
-          worst = handles.worst;
-        },
+  leaves_spent : trait.is_honest old.files → LineSpent → IsFalse new.out.failed → (handles.end.ending ≡ Err NoMemory) × LeavesDue trait prompts (last_due [] (final_report old.state.awaiting (ends_by NoMemory)) (trait.file old.files)) old new
+  leaves_spent honest spent well =
+      let s = shown honest (Fails spent.1.0 NoMemory) old.state old.state (refl, λ _. refl) spent.1.1 well in
+      let r = s.1.1 in
+      let bare = subst (λ (a : Option Aftermath). Reports spent.1.0 (Some number) (record r.details { aftermath = a }) (Err NoMemory) asked new.err handles.end.status) r.untold r.reported in (
+        s.0,
+        leaves_one trait prompts [] (final_report old.state.awaiting (ends_by NoMemory)) (trait.file old.files) old new asked handles.end.status spent.0 prompted s.1.0 (record {
+          details = record r.details { aftermath = None };
+          reported = record { reports = record { writes = bare.reports.writes; still = bare.reports.still }; status_is = bare.status_is };
+          untold = refl;
+        }) handles.worst,
       )
 
 -- ---- lines
@@ -178,14 +157,14 @@ module _ {F : Type 0} (trait : Ghosts F) (prompts : Bool) (now : ℕ) (final : R
       inl (count-trans (trait.failure_count old.files) (trait.failure_count mid.files) (trait.failure_count new.files) (handles_lasts trait prompts now number line old mid asked prompted continues.handles).1 le counts)
   line_honestly number line more old mid new honest asked prompted continues le comes (inr (inl failed)) = inr (inl failed)
   line_honestly number line more old mid new honest asked prompted continues le (inl is) (inr (inr leaves)) =
-      let shown = shown_due trait prompts now number line old mid asked prompted continues.handles honest is continues.well in
+      let left = leaves_due trait prompts now number line old mid asked prompted continues.handles honest is continues.well in
       let came = due trait prompts now number line old mid asked prompted continues.handles in
       let after = subst (λ (m : FileMap). LeavesDue trait prompts (talk_due final now (number + 1) more came.state m) mid new) (fun_ext is.1.1)
       (subst (λ (s : KtutilState). LeavesDue trait prompts (talk_due final now (number + 1) more s (trait.file mid.files)) mid new) is.0.state_is leaves) in
-      inr (inr (rw (sym shown.0 ∙ continues.goes_on) (leaves_first trait prompts (run_of came.effect).out (line_report old.state.awaiting number came.effect) old mid shown.1 _ new after)))
+      inr (inr (rw (sym left.0 ∙ continues.goes_on) (leaves_first trait prompts (run_of came.effect).out (line_report old.state.awaiting number came.effect) (files_after (trait.file old.files) came.effect) old mid left.1 _ new after)))
   line_honestly number line more old mid new honest asked prompted continues le (inr (inl counted)) (inr (inr leaves)) = inl (count-more (trait.failure_count old.files) (trait.failure_count mid.files) (trait.failure_count new.files) le counted)
   line_honestly number line more old mid new honest asked prompted continues le (inr (inr spent)) (inr (inr leaves)) =
-      let ending_is = (shown_spent trait prompts now number line old mid asked prompted continues.handles honest spent continues.well).0 in
+      let ending_is = (leaves_spent trait prompts now number line old mid asked prompted continues.handles honest spent continues.well).0 in
       absurd (false≢true (sym (and-false (not continues.handles.quits)) ∙ (rw ending_is at continues.goes_on)))
 
   -- lines were run, and what is due after the following lines was left
@@ -205,22 +184,20 @@ module _ {F : Type 0} (trait : Ghosts F) (prompts : Bool) (now : ℕ) (final : R
   stop_honestly : (number : ℕ) (line : List ℕ) (more : List (List ℕ)) (last new : Talk F) → trait.is_honest last.files → (asked : ErrorWatch) (prompted : Prompts prompts (prompt_of last.state.awaiting) last.err asked)
       (stops : Stops trait now number line (record last { err = asked }) new) → LineDue trait prompts now number line last new asked prompted stops.handles
       → LeavesDueUnlessFailed trait prompts (talk_due final now number (line ∷ more) last.state (trait.file last.files)) last new
-  stop_honestly number line more last new honest asked prompted stops is =
-      let came = due trait prompts now number line last new asked prompted stops.handles in
-      elim stops.why [
-        | inl ended ↦ unless_failed trait prompts _ last new new.out.failed refl (λ well.
-            let shown = shown_due trait prompts now number line last new asked prompted stops.handles honest is well in
-            rw (sym shown.0 ∙ ended) (leaves_last trait prompts (run_of came.effect).out (line_report last.state.awaiting number came.effect) last new shown.1 (files_after (trait.file last.files) came.effect) is.1.1))
-        | inr failed ↦ inr (inl failed)
-      ]
+  stop_honestly number line more last new honest asked prompted stops is = elim stops.why [
+    | inl ended ↦ unless_failed trait prompts _ last new new.out.failed refl (λ well.
+        let left = leaves_due trait prompts now number line last new asked prompted stops.handles honest is well in
+        rw (sym left.0 ∙ ended) left.1)
+    | inr failed ↦ inr (inl failed)
+  ]
 
 -- ---- an input
 
-module _ {F : Type 0} (trait : Ghosts F) (prompts : Bool) (now : ℕ) (given : Option (List ℕ)) (lines : List (List ℕ)) (first last : Talk F) (talked : TalksOver trait now prompts 1 lines first last) where
+module _ {F : Type 0} (trait : Ghosts F) (prompts : Bool) (now : ℕ) (input input' : Source) (lines : List (List ℕ)) (first last end : Talk F) (talked : TalksOver trait now prompts 1 lines first last) where
   -- what was due after the lines was left
-  leaves_after : (final : Run) (more : List (List ℕ)) (end : Talk F) → GivesLines given (lines ++ more) final → trait.failure_count last.files ≤ trait.failure_count end.files
-      → LeavesDueUnlessFailed trait prompts (talk_due final now (length lines + 1) more last.state (trait.file last.files)) last end → trait.is_honest first.files → TalksHonestly trait prompts now given first end
-  leaves_after final more end gives le leaves honest = record {
+  leaves_after : (final : Run) (more : List (List ℕ)) → GivesLines input.left (lines ++ more) final → trait.failure_count last.files ≤ trait.failure_count end.files
+      → LeavesDueUnlessFailed trait prompts (talk_due final now (length lines + 1) more last.state (trait.file last.files)) last end → trait.is_honest first.files → TalksHonestly trait prompts now input.left first end
+  leaves_after final more gives le leaves honest = record {
     lines = lines ++ more;
     final = final;
     given_lines = gives;
@@ -230,55 +207,38 @@ module _ {F : Type 0} (trait : Ghosts F) (prompts : Bool) (now : ℕ) (given : O
   }
 
   -- no line follows, and that is reported
-  leaves_final : (final : Run) (end : Talk F) → GivesLines given (lines ++ []) final → end.files ≡ last.files → IsShown prompts final.out (final_report last.state.awaiting final) last end → trait.is_honest first.files → TalksHonestly trait prompts now given first end
-  leaves_final final end gives same shown honest =
-      leaves_after final [] end gives (rw same (omega arith)) (inr (inr (leaves_last trait prompts final.out (final_report last.state.awaiting final) last end shown (trait.file last.files) (λ name. ap (λ (x : F). trait.file x name) same)))) honest
-
-  pub honest_after : (err' : ErrorWatch) → Prompts prompts (last_prompt last.state.awaiting) last.err err' → AreLines given (lines ++ []) → trait.is_honest first.files → TalksHonestly trait prompts now given first (record last { err = err' })
-  honest_after err' prompted all =
-      let details : Details = record { cause = None; in_the_way = None; aftermath = None } in
-      leaves_final quiet_run (record last { err = err' }) (record { gives = inl (all, refl) }) refl (record {
-        asked = err';
-        status = 0;
-        prompted = prompted;
-        printed = Appends-nil last.out.contents;
-        reported = record { details = details; reported = record { reports = ReportsEnd-nothing [] None details err' refl; status_is = refl }; untold = refl };
-        worst = omega arith;
-      })
+  leaves_final : (final : Run) → GivesLines input.left (lines ++ []) final → end.files ≡ last.files → (asked : ErrorWatch) (status : ℕ) → Prompts prompts (final_prompt last.state.awaiting final.ending) last.err asked
+      → Appends last.out.contents end.out.contents final.out → ReportsDue (final_report last.state.awaiting final) asked end.err status → end.status ≡ max last.status status → trait.is_honest first.files → TalksHonestly trait prompts now input.left first end
+  leaves_final final gives same asked status prompted printed reported worst honest =
+      let files : SameFiles (trait.file last.files) (trait.file end.files) = λ name. ap (λ (x : F). trait.file x name) same in
+      leaves_after final [] gives (rw same (omega arith)) (inr (inr (leaves_one trait prompts final.out (final_report last.state.awaiting final) (trait.file last.files) last end asked status files prompted printed reported worst))) honest
 
   -- no line after these was read
-  GivesLines-unread : (fault : LoadFault) → AreFirst lines given → GivesLines given (lines ++ []) (ends_by (input_error fault))
-  GivesLines-unread fault are_first = record { gives = inr (subst (λ (l : List (List ℕ)). AreFirst l given) (sym (append-nil lines)) are_first, (fault, refl)) }
+  GivesLines-unread : (fault : LoadFault) → AreFirst lines input.left → GivesLines input.left (lines ++ []) (ends_by (input_error fault))
+  GivesLines-unread fault are_first = record { gives = inr (subst (λ (l : List (List ℕ)). AreFirst l input.left) (sym (append-nil lines)) are_first, (fault, refl)) }
 
-  pub honest_unread : (fault : LoadFault) → AreFirst lines given → (details : Details) (asked err' : ErrorWatch) (status : ℕ) → Prompts prompts (prompt_of last.state.awaiting) last.err asked
-      → Reports [] None details (Err (input_error fault)) asked err' (error_status (input_error fault)) → details.aftermath ≡ None
-      → status ≡ max last.status (error_status (input_error fault)) → trait.is_honest first.files
-      → TalksHonestly trait prompts now given first (record { files = last.files; state = last.state; out = last.out; err = err'; status = status })
-  honest_unread fault are_first details asked err' status prompted reported untold worst =
-      leaves_final (ends_by (input_error fault)) (record { files = last.files; state = last.state; out = last.out; err = err'; status = status }) (GivesLines-unread fault are_first) refl (record {
-        asked = asked;
-        status = error_status (input_error fault);
-        prompted = prompted;
-        printed = Appends-nil last.out.contents;
-        reported = record { details = details; reported = reported; untold = untold };
-        worst = worst;
-      })
-
+  pub honest_ends : EndsTalk trait now prompts input input' lines last end → trait.is_honest first.files → TalksHonestly trait prompts now input.left first end
+  honest_ends (inl e) honest =
+      let details : Details = record { cause = None; in_the_way = None; aftermath = None } in
+      let same = e.same in
+      leaves_final quiet_run (record { gives = inl (subst (AreLines input.left) (sym (append-nil lines)) e.all, refl) }) (ap (λ (t : Talk F). t.files) same) end.err 0 e.prompted (rw same (Appends-nil last.out.contents))
+      (record { details = details; reported = record { reports = ReportsEnd-nothing [] None details end.err refl; status_is = refl }; untold = refl }) (rw same (omega arith)) honest
+  honest_ends (inr (inr e)) honest =
+      let why = input_error e.fault in
+      let reported : Reports [] None e.details (Err why) e.asked end.err (error_status why) = record { reports = e.writes; status_is = end_status-none (Err why) e.details.aftermath e.untold } in
+      leaves_final (ends_by why) (GivesLines-unread e.fault e.first) e.files e.asked (error_status why) e.prompted (rw e.out (Appends-nil last.out.contents)) (record { details = e.details; reported = reported; untold = e.untold }) e.worst honest
   -- a line was the last
-  pub honest_in_line : (line : List ℕ) (end : Talk F) (asked : ErrorWatch) → Prompts prompts (prompt_of last.state.awaiting) last.err asked → AreFirst (lines ++ line ∷ []) given
-      → Stops trait now (length lines + 1) line (record last { err = asked }) end → trait.is_honest first.files → TalksHonestly trait prompts now given first end
-  honest_in_line line end asked prompted first_lines stops honest =
+  honest_ends (inr (inl e)) honest =
       let still = (talk_lasts trait prompts now 1 lines first last talked).0 honest in
       let number = length lines + 1 in
-      let handles = stops.handles in
-      let rest = lines_after given (lines ++ line ∷ []) first_lines in
-      let all = subst (AreLines given) (append_assoc lines (line ∷ []) rest.0) rest.1 in
-      let le = (handles_lasts trait prompts now number line last end asked prompted handles).1 in
-      elim (line_comes trait prompts now number line last end asked prompted handles still) [
-        | inl is ↦ leaves_after quiet_run (line ∷ rest.0) end (record { gives = inl (all, refl) }) le (stop_honestly trait prompts now quiet_run number line rest.0 last end still asked prompted stops is) honest
-        | inr fails ↦ leaves_after (ends_by NoMemory) [] end (GivesLines-unread load.NoMemory (are_first given lines (line ∷ rest.0) all)) le (elim fails [
+      let handles = e.stops.handles in
+      let rest = lines_after input.left (lines ++ e.line ∷ []) e.first in
+      let all = subst (AreLines input.left) (append_assoc lines (e.line ∷ []) rest.0) rest.1 in
+      let le = (handles_lasts trait prompts now number e.line last end e.asked e.prompted handles).1 in
+      elim (line_comes trait prompts now number e.line last end e.asked e.prompted handles still) [
+        | inl is ↦ leaves_after quiet_run (e.line ∷ rest.0) (record { gives = inl (all, refl) }) le (stop_honestly trait prompts now quiet_run number e.line rest.0 last end still e.asked e.prompted e.stops is) honest
+        | inr fails ↦ leaves_after (ends_by NoMemory) [] (GivesLines-unread load.NoMemory (are_first input.left lines (e.line ∷ rest.0) all)) le (elim fails [
           | inl counted ↦ inl counted
-          | inr spent ↦ unless_failed trait prompts _ last end end.out.failed refl (λ well. leaves_last trait prompts [] (final_report last.state.awaiting (ends_by NoMemory)) last end
-              (shown_spent trait prompts now number line last end asked prompted handles still spent well).1 (trait.file last.files) spent.0)
+          | inr spent ↦ unless_failed trait prompts _ last end end.out.failed refl (λ well. (leaves_spent trait prompts now number e.line last end e.asked e.prompted handles still spent well).1)
         ]) honest
       ]

@@ -1,61 +1,23 @@
 -- The first word of a line, the words after it, and the options among them.
-use Rattle.krb_ktutil.proofs.Cited.{◌≡◌, ℕ, ◌<◌, ◌≤◌, Bool, true, false, not, List, [], ◌∷◌, ◌++◌, length, take, drop, refl, sym, ap, subst, ◌∙◌, arith, ◌&&◌, words, unindented, zero, suc, get_or, map, cond, filter, ◌==◌, concat, slice_split, onto_first, eqb-true, is_blank, pieces, is_gap, parts, is_word, size_from, word_size, Some, options_in, AddOptions, is_new_key, with_option, nil_from_length, length-slice_split}
-
--- a backslash is not a blank
-backslash_is_no_blank : (b : ℕ) → (b == 92) ≡ true → is_blank b ≡ true → false ≡ true
-backslash_is_no_blank b e blank = let same : b ≡ 92 = eqb-true b 92 e in rw same at blank
-
--- parts, with bytes before the first one
-abbrev pub onto : List ℕ → List (List ℕ) → List (List ℕ)
-onto bytes [] = bytes ∷ []
-onto bytes (part ∷ others) = (bytes ++ part) ∷ others
-
-concat_onto : (x : List ℕ) (ys : List (List (List ℕ))) → 0 < length ys → map concat (onto_first x ys) ≡ onto x (map concat ys)
-concat_onto x (y ∷ ys) some = refl
-concat_onto x [] some = absurd (omega arith)
-
--- a piece that is not a gap is at the front of the first part
-parts_more : (x : List ℕ) (xs : List (List ℕ)) → is_gap x ≡ false → map concat (slice_split is_gap (x ∷ xs)) ≡ onto x (map concat (slice_split is_gap xs))
-parts_more x xs e = rw e (concat_onto x (slice_split is_gap xs) (omega (arith, length-slice_split is_gap xs)))
-
--- a blank at the front ends an empty part
-parts_blank : (b : ℕ) (bs : List ℕ) → is_blank b ≡ true → parts (b ∷ bs) ≡ [] ∷ parts bs
-parts_blank b [] e = rw e refl
-parts_blank b (c ∷ rest) e = go (b == 92) refl
-  where
-    go : (t : Bool) → (b == 92) ≡ t → map concat (slice_split is_gap (cond t ((b ∷ c ∷ []) ∷ pieces rest) ((b ∷ []) ∷ pieces (c ∷ rest)))) ≡ [] ∷ parts (c ∷ rest)
-    go true t = absurd (cc (backslash_is_no_blank b t e))
-    go false t = rw e refl
+use Rattle.krb_ktutil.proofs.Cited.{◌≡◌, ℕ, ◌<◌, ◌≤◌, Bool, true, false, not, List, [], ◌∷◌, length, take, drop, refl, sym, ap, subst, ◌∙◌, arith, ◌&&◌, words, unindented, zero, suc, get_or, cond, filter, ◌==◌, onto_first, is_blank, parts_from, is_word, size_from, word_size, Some, options_in, AddOptions, is_new_key, with_option, nil_from_length}
 
 -- the first part of a text has n bytes
-record FirstPart (text : List ℕ) (n : ℕ) : Type 0 where
-  parts_are : parts text ≡ take n text ∷ drop 1 (parts (drop n text))
-  ends : parts (drop n text) ≡ [] ∷ drop 1 (parts (drop n text))
+record FirstPart (text : List ℕ) (quoted : Bool) (n : ℕ) : Type 0 where
+  parts_are : parts_from text quoted ≡ take n text ∷ drop 1 (parts_from (drop n text) false)
+  ends : parts_from (drop n text) false ≡ [] ∷ drop 1 (parts_from (drop n text) false)
   within : n ≤ length text
 
-first_of_one : (b : ℕ) (t : Bool) → is_blank b ≡ t → FirstPart (b ∷ []) (cond t zero (suc zero))
-first_of_one b true e = record { parts_are = rw e refl; ends = rw e refl; within = omega arith }
-first_of_one b false e = record { parts_are = rw e refl; ends = refl; within = omega arith }
+one_more : (b : ℕ) (bs : List ℕ) (quoted next : Bool) (n : ℕ) → parts_from (b ∷ bs) quoted ≡ onto_first b (parts_from bs next) → FirstPart bs next n → FirstPart (b ∷ bs) quoted (suc n)
+one_more b bs quoted next n is first = record { parts_are = is ∙ ap (onto_first b) first.parts_are; ends = first.ends; within = let h = first.within in omega arith }
 
-first_of_more : (b c : ℕ) (rest : List ℕ) (t u : Bool) → is_blank b ≡ t → (b == 92) ≡ u → FirstPart rest (word_size rest) → FirstPart (c ∷ rest) (word_size (c ∷ rest))
-    → FirstPart (b ∷ c ∷ rest) (cond t zero (suc (size_from (c ∷ rest) u)))
-first_of_more b c rest true true e f quoted plain = let no : false ≡ true = backslash_is_no_blank b f e in absurd (cc)
-first_of_more b c rest true false e f quoted plain = record { parts_are = rw (f, e) refl; ends = rw (f, e) refl; within = omega arith }
-first_of_more b c rest false true e f quoted plain = record {
-  parts_are = rw f (parts_more (b ∷ c ∷ []) (pieces rest) refl ∙ ap (onto (b ∷ c ∷ [])) quoted.parts_are);
-  ends = quoted.ends;
-  within = let h = quoted.within in omega arith;
-}
-first_of_more b c rest false false e f quoted plain = record {
-  parts_are = rw f (parts_more (b ∷ []) (pieces (c ∷ rest)) e ∙ ap (onto (b ∷ [])) plain.parts_are);
-  ends = plain.ends;
-  within = let h = plain.within in omega arith;
-}
+first_plain : (b : ℕ) (bs : List ℕ) (t : Bool) → is_blank b ≡ t → FirstPart bs (b == 92) (size_from bs (b == 92)) → FirstPart (b ∷ bs) false (cond t zero (suc (size_from bs (b == 92))))
+first_plain b bs true e first = record { parts_are = rw e refl; ends = rw e refl; within = omega arith }
+first_plain b bs false e first = one_more b bs false (b == 92) _ (rw e refl) first
 
-first_part : (text : List ℕ) → FirstPart text (word_size text)
-first_part [] = record { parts_are = refl; ends = refl; within = omega arith }
-first_part (b ∷ []) = first_of_one b (is_blank b) refl
-first_part (b ∷ c ∷ rest) = first_of_more b c rest (is_blank b) (b == 92) refl refl (first_part rest) (first_part (c ∷ rest))
+first_part : (text : List ℕ) (quoted : Bool) → FirstPart text quoted (size_from text quoted)
+first_part [] quoted = record { parts_are = refl; ends = refl; within = omega arith }
+first_part (b ∷ bs) true = one_more b bs true false _ refl (first_part bs false)
+first_part (b ∷ bs) false = first_plain b bs (is_blank b) refl (first_part bs (b == 92))
 
 -- the first n bytes of a text are a word, if there are any
 some_is_word : (text : List ℕ) (n : ℕ) → 0 < n → 0 < length text → is_word (take n text) ≡ true
@@ -65,7 +27,7 @@ some_is_word (b ∷ bs) (suc n) p q = refl
 
 -- a blank before a line changes none of its words
 words_blank : (b : ℕ) (bs : List ℕ) → is_blank b ≡ true → words (b ∷ bs) ≡ words bs
-words_blank b bs e = ap (filter is_word) (parts_blank b bs e)
+words_blank b bs e = rw e refl
 
 words-unindented-cons : (t : Bool) (b : ℕ) (bs : List ℕ) → is_blank b ≡ t → words (unindented bs) ≡ words bs → words (cond t (unindented bs) (b ∷ bs)) ≡ words (b ∷ bs)
 words-unindented-cons true b bs e rest = rest ∙ sym (words_blank b bs e)
@@ -101,9 +63,9 @@ pub record FirstWord (line text : List ℕ) (n : ℕ) : Type 0 where
 first_word-of : (line text : List ℕ) → words text ≡ words line → BeginsPlain text → 0 < length text → FirstWord line text (word_size text)
 first_word-of line text same plain some =
     let n = word_size text in
-    let part = first_part text in
+    let part = first_part text false in
     let begun = plain_has_size text plain some in
-    let here : filter is_word (take n text ∷ drop 1 (parts (drop n text))) ≡ take n text ∷ filter is_word (drop 1 (parts (drop n text))) =
+    let here : filter is_word (take n text ∷ drop 1 (parts_from (drop n text) false)) ≡ take n text ∷ filter is_word (drop 1 (parts_from (drop n text) false)) =
     rw (some_is_word text n begun some) refl in
     record {
       cut = sym same ∙ ap (filter is_word) part.parts_are ∙ here ∙ ap (λ (others : List (List ℕ)). take n text ∷ others) (sym (ap (filter is_word) part.ends));

@@ -1,6 +1,6 @@
 -- The lines of a reader.
-use Rattle.std.specs.Prelude.{◌≡◌, ℕ, ◌+◌, ◌<◌, ◌≤◌, ◌==◌, List, [], ◌∷◌, ◌++◌, drop, take, length, slice_range, Bool, true, false, Option, None, Some, IfSome}
-use Rattle.std.specs.List.{flat_map, slice_split, AllByRecursion}
+use Rattle.std.specs.Prelude.{◌≡◌, ◌⊎◌, ℕ, ◌+◌, ◌≤◌, ◌==◌, List, [], ◌∷◌, ◌++◌, drop, take, length, slice_range, Bool, false, nat_lt, Option, None, Some, IsTrue, if◌then◌else◌}
+use Rattle.std.specs.List.{flat_map, onto_first, AllByRecursion}
 use Rattle.std.specs.Io.KnownBytes.{Consumes, IsAtEnd}
 use Rattle.krb_files.specs.Loading.{most_bytes}
 
@@ -12,44 +12,16 @@ is_newline b = b == 10
 abbrev pub HasNone : List ℕ → Type 0
 HasNone bytes = AllByRecursion (λ b. is_newline b ≡ false) bytes
 
--- the last line, if it has a byte
-abbrev pub last_line : List ℕ → List (List ℕ)
-last_line [] = []
-last_line (b ∷ bs) = (b ∷ bs) ∷ []
-
--- some lines, without the last one if that is empty
-abbrev pub without_empty_last : List (List ℕ) → List (List ℕ)
-without_empty_last [] = []
-without_empty_last (line ∷ []) = last_line line
-without_empty_last (line ∷ next ∷ others) = line ∷ without_empty_last (next ∷ others)
-
 -- the lines of an input: the bytes before each newline, and those after the last one, if any
 abbrev pub lines_of : List ℕ → List (List ℕ)
-lines_of bytes = without_empty_last (slice_split is_newline bytes)
+lines_of [] = []
+lines_of (b ∷ bs) = if is_newline b then [] ∷ lines_of bs else onto_first b (lines_of bs)
 
 -- an input as far as it was read: all those bytes, the last line read, and where the next one begins
 pub record InputParts : Type 0 where
   pub read : List ℕ
   pub line : List ℕ
   pub next : ℕ
-
--- the lines that are still to come, from what was read and what the reader has left
-abbrev pub HasLines : InputParts → Option (List ℕ) → List (List ℕ) → Type 0
-HasLines input left lines = IfSome left (λ bytes. lines_of (drop input.next input.read ++ bytes) ≡ lines)
-
--- the lines to come are those that were to come
-abbrev pub KeepsLines : InputParts → InputParts → Option (List ℕ) → Option (List ℕ) → Type 0
-KeepsLines old new left left' = (lines : List (List ℕ)) → HasLines new left' lines → HasLines old left lines
-
--- the line that was read was the first of the lines to come
-pub record TakesLine (old new : InputParts) (left left' : Option (List ℕ)) : Type 0 where
-  pub first : (lines : List (List ℕ)) → HasLines new left' lines → HasLines old left (new.line ∷ lines)
-  pub further : old.next < new.next
-
--- a line was read, or none was left
-abbrev pub ReadsLine : Bool → InputParts → InputParts → Option (List ℕ) → Option (List ℕ) → Type 0
-ReadsLine true old new left left' = TakesLine old new left left'
-ReadsLine false old new left left' = HasLines old left []
 
 -- lines, each with its newline
 abbrev pub with_newlines : List (List ℕ) → List ℕ
@@ -70,6 +42,12 @@ pub record EndsInNewline (old new : InputParts) : Type 0 where
 pub record IsSpent (input : InputParts) (left : Option (List ℕ)) : Type 0 where
   pub at_end : IsAtEnd left
   pub all : input.next ≡ length input.read
+
+-- a line was read, unless there is none: up to a newline, or all that was left at the end
+pub record ReadsLine (is_line : Bool) (old new : InputParts) (left : Option (List ℕ)) : Type 0 where
+  pub further : is_line ≡ nat_lt old.next new.next
+  pub none : HasNone new.line
+  pub ends : (IsTrue is_line × EndsInNewline old new) ⊎ (IsSpent new left × (new.line ≡ drop old.next new.read))
 
 -- no further newline was read, within what an input may have
 pub record HasNoMore (old new : InputParts) : Type 0 where

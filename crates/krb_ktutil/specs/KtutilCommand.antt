@@ -1,6 +1,6 @@
 -- The words of a line, the command that they ask for, and their faults.
-use Rattle.std.specs.Prelude.{ℕ, zero, suc, List, [], ◌∷◌, ◌++◌, map, filter, reverse, Bool, true, false, ◌||◌, ◌==◌, if◌then◌else◌, not, ◌&&◌, nat_lt, nat_le, codes, Option, None, Some, is_none, ok_or, Result, Ok, Err}
-use Rattle.std.specs.List.{concat, slice_split, list_any}
+use Rattle.std.specs.Prelude.{ℕ, zero, suc, List, [], ◌∷◌, ◌++◌, filter, reverse, Bool, true, false, ◌||◌, ◌==◌, if◌then◌else◌, not, ◌&&◌, nat_lt, nat_le, codes, Option, None, Some, is_none, ok_or, Result, Ok, Err}
+use Rattle.std.specs.List.{onto_first, list_any}
 use Rattle.std.specs.Str.{bytes_eq, is_utf8}
 use Rattle.krb_wire.specs.Names.{name_text}
 use Rattle.krb_wire.specs.Spelling.{Parts}
@@ -18,21 +18,11 @@ use Rattle.krb_driver.specs.declared.error.RunError.TheVariants.{AsksForHelp, Fa
 abbrev pub is_blank : ℕ → Bool
 is_blank b = b == 32 || b == 9
 
--- a line split into pieces, from the left: a backslash with the byte after it, or one other byte
-abbrev pub pieces : List ℕ → List (List ℕ)
-pieces [] = []
-pieces (b ∷ []) = (b ∷ []) ∷ []
-pieces (b ∷ c ∷ rest) = if b == 92 then (b ∷ c ∷ []) ∷ pieces rest else (b ∷ []) ∷ pieces (c ∷ rest)
-
--- a piece is a blank
-abbrev pub is_gap : List ℕ → Bool
-is_gap [] = false
-is_gap (b ∷ []) = is_blank b
-is_gap (b ∷ c ∷ rest) = false
-
--- the parts before, between and after the blanks that are not quoted
-abbrev pub parts : List ℕ → List (List ℕ)
-parts line = map concat (slice_split is_gap (pieces line))
+-- the parts before, between and after the blanks that are not quoted, by whether the first byte is; a backslash quotes the byte after it
+abbrev pub parts_from : List ℕ → Bool → List (List ℕ)
+parts_from [] quoted = [] ∷ []
+parts_from (b ∷ bs) true = onto_first b (parts_from bs false)
+parts_from (b ∷ bs) false = if is_blank b then [] ∷ parts_from bs false else onto_first b (parts_from bs (b == 92))
 
 -- a part is not empty
 abbrev pub is_word : List ℕ → Bool
@@ -41,7 +31,7 @@ is_word (b ∷ bs) = true
 
 -- the words: the parts that are not empty
 abbrev pub words : List ℕ → List (List ℕ)
-words line = filter is_word (parts line)
+words line = filter is_word (parts_from line false)
 
 -- a text without its leading blanks
 abbrev pub unindented : List ℕ → List ℕ
@@ -191,35 +181,22 @@ options_in given (option ∷ word ∷ others) =
     if is_new_key given option then options_in (record given { key = true }) (word ∷ others)
     else (with_option given option word >>= λ more. options_in more others)
 
--- the three option values of an addition
-pub record AddWords : Type 0 where
-  pub name : List ℕ
-  pub version : List ℕ
-  pub enctype : List ℕ
-
--- the values, if all options are given
-abbrev pub all_given : AddOptions → Option AddWords
-all_given given =
-    given.name >>= λ name.
-    given.version >>= λ version.
-    given.enctype >>= λ enctype.
-    if given.key then Some (record { name = name; version = version; enctype = enctype }) else None
-
--- the option values of an addition: each option is given once, in any order
-abbrev pub add_words : List (List ℕ) → Result AddWords LineFault
-add_words words = ok_or (options_in no_options words >>= all_given) WordCount
-
--- the entry of an addition: its kvno is read first, then its enctype, then its name
-abbrev pub awaited_of : AddWords → Result Awaited LineFault
-awaited_of x =
+-- the entry of an addition, if all options are given: its kvno is read first, then its enctype, then its name
+abbrev pub awaited_by : Bool → Option (List ℕ) → Option (List ℕ) → Option (List ℕ) → Result Awaited LineFault
+awaited_by true (Some name) (Some version) (Some enctype) =
     after (λ version.
     after (λ enctype.
     after (λ principal. Ok (record { principal = principal; version = version; enctype = enctype }))
-    (name_word x.name)) (etype_word x.enctype)) (number_word x.version)
+    (name_word name)) (etype_word enctype)) (number_word version)
+awaited_by key name version enctype = Err WordCount
+
+-- the entry of words as options, each given once, in any order
+abbrev pub awaited_of : List (List ℕ) → Result Awaited LineFault
+awaited_of words = after (λ given. awaited_by given.key given.name given.version given.enctype) (ok_or (options_in no_options words) WordCount)
 
 -- the addition of an entry whose key is still to come
 abbrev pub addition : List (List ℕ) → Result Command LineFault
-addition words = after (λ awaited. Ok (AwaitKey awaited)) (after awaited_of (add_words words))
+addition words = after (λ awaited. Ok (AwaitKey awaited)) (awaited_of words)
 
 -- one of the words is just `-password`
 abbrev pub has_password : List (List ℕ) → Bool

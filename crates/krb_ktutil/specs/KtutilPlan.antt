@@ -19,11 +19,11 @@ use Rattle.krb_driver.specs.declared.file_name.NameSource.TheVariants.{Word}
 use Rattle.krb_driver.specs.declared.loading.NoKeytab.{NoKeytab}
 use Rattle.krb_driver.specs.declared.verdict.FileKind.TheVariants.{Keytab}
 use Rattle.krb_driver.specs.declared.verdict.Verdict.{Verdict}
-use Rattle.krb_driver.specs.declared.verdict.Verdict.TheVariants.{Well, HiddenFrom, NoEntry}
+use Rattle.krb_driver.specs.declared.verdict.Verdict.TheVariants.{Well, NoEntry}
 use Rattle.krb_driver.specs.Commands.{Effect, Fails, Displays, Saves, text, text_effect, IsSpent}
 use Rattle.krb_driver.specs.FileNames.{bare_name, has_type, is_other_type}
 use Rattle.krb_driver.specs.Loading.{keytab_of, keytab_or_new, result_map}
-use Rattle.krb_driver.specs.RunErrors.{no_keytab_error}
+use Rattle.krb_driver.specs.RunErrors.{hiding, no_keytab_error}
 use Rattle.krb_audit.specs.Findings.{hides_added}
 use Rattle.krb_keytab_text.specs.Listing.{slot_text}
 use Rattle.krb_text.specs.Word.{key_word}
@@ -100,8 +100,7 @@ pub record Added : Type 0 where
 -- the verdict of the save of a keytab with these entries, if `hidden` is the place from which on MIT's programs see none
 abbrev pub verdict_by : List PlacedEntry → Option ℕ → Verdict
 verdict_by [] hidden = NoEntry
-verdict_by (entry ∷ others) None = Well
-verdict_by (entry ∷ others) (Some place) = HiddenFrom place
+verdict_by (entry ∷ others) hidden = hiding hidden Well
 
 -- the verdict of `wkt`: well, no entry, or an added entry hidden from MIT's programs from a place on
 abbrev pub saved_verdict : Added → Verdict

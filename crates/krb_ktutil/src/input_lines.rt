@@ -1,9 +1,9 @@
 //! Reads lines from a reader, each as soon as its end is read.
 
-ghost use Rattle.std.specs.Prelude.{◌≡◌, ◌≢◌, ◌⊎◌, ◌||◌, ◌<◌, ◌≤◌, ◌+◌, [], length, slice_range, IfOk, IfErr, IfSome, IsTrue, OnErr, IsErrOf, vec_len};
+ghost use Rattle.std.specs.Prelude.{◌≡◌, ◌≢◌, ◌⊎◌, ◌||◌, ◌<◌, ◌≤◌, ◌+◌, [], length, slice_range, IfOk, IfErr, IfSome, OnErr, IsErrOf, vec_len};
 ghost use Rattle.krb_files.specs.Bytes.{is_read_fault};
 ghost use Rattle.krb_files.specs.Loading.{most_bytes};
-ghost use Rattle.krb_ktutil.specs.InputLines.{InputParts, ReadsLine, KeepsLines, Grows, IsWithin, FindsNewline, EndsLine, EndsInNewline, IsSpent, HasNoMore, HasNone};
+ghost use Rattle.krb_ktutil.specs.InputLines.{InputParts, ReadsLine, Grows, IsWithin, FindsNewline, EndsLine, HasNoMore, HasNone};
 
 use krb_files::{LoadFault, WatchedReader, append_read, next_read};
 use krb_wire::USUAL_LIMIT;
@@ -109,15 +109,10 @@ impl<A: Allocator> InputLines<A> {
     /// Reads the next line, and stops as soon as its end is read. Returns false at the end of the input. The last line
     /// needs no newline. Of all lines together at most `USUAL_LIMIT + 1` bytes are read.
     pub fn read_line<R: Read>(&mut self, reader: &mut WatchedReader<R>) -> Result<bool, LoadFault>
-        ensures line { IfOk result (λ is_line. ReadsLine is_line self.old self.new
-            reader.old.left reader.new.left) }
-        ensures ended { IfOk result (λ is_line. IsTrue is_line
-            → EndsInNewline self.old self.new ⊎ IsSpent self.new reader.new.left) }
+        ensures line { IfOk result (λ is_line. ReadsLine is_line self.old self.new reader.new.left) }
         // If a read fails, no line is lost, but what was cut off is not a line.
         ensures no_more { OnErr result (HasNoMore self.old self.new) }
         ensures failed { reader.new.failed ≡ (is_read_fault result || reader.old.failed) }
-        ensures err { OnErr result (KeepsLines self.old self.new
-            reader.old.left reader.new.left) }
         ensures too_large { IsErrOf result LoadFault.TooLarge → most_bytes < length self.new.read }
         ensures never { IfErr result (λ fault. fault ≢ LoadFault.Missing) }
         ensures grows { Grows self.old.read self.new.read reader.old.left reader.new.left }

@@ -1,14 +1,14 @@
 //! Credentials as C sees them, and reading a cache for C.
 
-ghost use Rattle.std.specs.Prelude.{◌≡◌, None, option_copied, option_map, Some, IsSome};
+ghost use Rattle.std.specs.Prelude.{◌≡◌, None, option_copied, option_map, ok_or, Some, IsSome, if◌then◌else◌};
 ghost use Rattle.krb_wire.specs.Reading.{principal_parts};
 ghost use Rattle.krb_wire.specs.NameOf.{name_of};
 ghost use Rattle.krb_wire.specs.Names.{name_text};
 ghost use Rattle.krb_walk.specs.Store.{live_bytes};
 ghost use Rattle.krb_ccache.specs.Store.{credential_at_place, store_of};
 ghost use Rattle.krb_ccache.specs.Config.{config_of};
-ghost use Rattle.krb_c.specs.CacheLooks.{FindsOne, Finds, ticket_for, is_ticket_for, text_or_none, Shows};
-ghost use Rattle.krb_c.specs.Text.{LooksAt, ShowsBytes, CopiesTextAt};
+ghost use Rattle.krb_c.specs.CacheLooks.{Finds, ticket_for, is_ticket_for, text_or_none, Shows};
+ghost use Rattle.krb_c.specs.Text.{FindsOne, LooksAt, ShowsBytes, CopiesTextAt};
 
 use crate::cache::HeldCache;
 use crate::heap::Heap;
@@ -92,13 +92,11 @@ impl Records for Ccache<Heap> {
 pub fn look_at(held: &HeldCache, place: u32, ticket: &mut KrbfTicket) -> u32
     ensures { LooksAt Shows (credential_at_place held.now.state place) place result ticket.old ticket.new }
 {
-    match held.cred_at(place) {
-        Some(credential) => {
-            *ticket = shown(place, &credential);
-            DONE
-        }
-        None => of_code(Code::NotLive),
-    }
+    let Some(credential) = held.cred_at(place) else {
+        return of_code(Code::NotLive);
+    };
+    *ticket = shown(place, &credential);
+    DONE
 }
 
 // True if a credential is a ticket for this server, not a configuration entry.
@@ -122,15 +120,13 @@ fn first_for<'a>(cache: &'a Ccache<Heap>, server: &Principal<Heap>) -> Option<(u
 
 // Shows the first live ticket for a server.
 fn show_first(cache: &Ccache<Heap>, server: &Principal<Heap>, ticket: &mut KrbfTicket) -> u32
-    ensures { FindsOne (ticket_for cache.now.state (principal_parts server.now)) result ticket.old ticket.new }
+    ensures { FindsOne Shows (ok_or (ticket_for cache.now.state (principal_parts server.now)) Code.NotFound) result ticket.old ticket.new }
 {
-    match first_for(cache, server) {
-        Some((place, credential)) => {
-            *ticket = shown(place, &credential);
-            DONE
-        }
-        None => of_code(Code::NotFound),
-    }
+    let Some((place, credential)) = first_for(cache, server) else {
+        return of_code(Code::NotFound);
+    };
+    *ticket = shown(place, &credential);
+    DONE
 }
 
 /// Shows the first live ticket for the server that a text names.
@@ -158,45 +154,32 @@ pub fn some_text(text: &[u8]) -> Option<&[u8]>
 pub fn config(cache: &Ccache<Heap>, key: &[u8], principal: &[u8], value: &mut KrbfBytes) -> u32
     ensures { ShowsBytes (config_of cache.now.state key.now (text_or_none principal.now)) result value.old value.new }
 {
-    match cache.config(key, some_text(principal)) {
-        Some(bytes) => {
-            *value = bytes_of(bytes);
-            DONE
-        }
-        None => of_code(Code::NotFound),
-    }
+    let Some(bytes) = cache.config(key, some_text(principal)) else {
+        return of_code(Code::NotFound);
+    };
+    *value = bytes_of(bytes);
+    DONE
 }
 
-/// Copies the text of the client of the credential at `place` into `room`, as much as fits, and reports its length.
-pub fn copy_client(
+/// Copies the text of the server or the client of the credential at `place` into `room`, as much as fits, and reports its
+/// length.
+pub fn copy_name_at(
     alloc: Global,
     held: &HeldCache,
     place: u32,
+    is_server: bool,
     room: &mut [u8],
     len: &mut usize,
 ) -> u32
-    ensures { CopiesTextAt (option_map (λ c. name_text c.client) (credential_at_place held.now.state place))
+    ensures { CopiesTextAt (option_map (λ c. name_text (if is_server then c.server else c.client)) (credential_at_place held.now.state place))
         result room.old room.new len.old len.new }
 {
-    match held.cred_at(place) {
-        Some(credential) => copy_name(alloc, credential.client(), room, len),
-        None => of_code(Code::NotLive),
-    }
-}
-
-/// Copies the text of the server of the credential at `place` into `room`, as much as fits, and reports its length.
-pub fn copy_server(
-    alloc: Global,
-    held: &HeldCache,
-    place: u32,
-    room: &mut [u8],
-    len: &mut usize,
-) -> u32
-    ensures { CopiesTextAt (option_map (λ c. name_text c.server) (credential_at_place held.now.state place))
-        result room.old room.new len.old len.new }
-{
-    match held.cred_at(place) {
-        Some(credential) => copy_name(alloc, credential.server(), room, len),
-        None => of_code(Code::NotLive),
+    let Some(credential) = held.cred_at(place) else {
+        return of_code(Code::NotLive);
+    };
+    if is_server {
+        copy_name(alloc, credential.server(), room, len)
+    } else {
+        copy_name(alloc, credential.client(), room, len)
     }
 }

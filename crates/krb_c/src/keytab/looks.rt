@@ -73,13 +73,11 @@ impl Records for Indexed<Heap> {
 pub fn look_at(held: &HeldKeytab, place: u32, entry: &mut KrbfEntry) -> u32
     ensures { LooksAt Shows (entry_at_place held.now.state place) place result entry.old entry.new }
 {
-    match held.store().entry_at(place) {
-        Some(seen) => {
-            *entry = shown(place, &seen);
-            DONE
-        }
-        None => of_code(Code::NotLive),
-    }
+    let Some(seen) = held.store().entry_at(place) else {
+        return of_code(Code::NotLive);
+    };
+    *entry = shown(place, &seen);
+    DONE
 }
 
 /// Shows the first entry of the name in a text, with this kvno and enctype.
@@ -135,11 +133,9 @@ pub fn show_component(
     let Some(entry) = held.store().entry_at(place) else {
         return of_code(Code::NotLive);
     };
-    match entry.principal().component(number) {
-        Some(bytes) => {
-            *component = bytes_of(bytes);
-            DONE
-        }
-        None => of_code(Code::NotFound),
-    }
+    let Some(bytes) = entry.principal().component(number) else {
+        return of_code(Code::NotFound);
+    };
+    *component = bytes_of(bytes);
+    DONE
 }

@@ -61,27 +61,19 @@ pub fn slot(rest: &[u8], count: usize) -> Result<u32, LineFault>
     checked_slot(number_word(only(rest)?)?, count)
 }
 
-fn with_column(columns: KtColumns, option: &[u8]) -> Option<KtColumns>
+fn with_column(mut columns: KtColumns, option: &[u8]) -> Option<KtColumns>
     ensures { result ≡ with_column columns option.now }
 {
     if option == b"-t".as_slice() && !columns.times {
-        Some(KtColumns {
-            times: true,
-            ..columns
-        })
+        columns.times = true;
     } else if option == b"-k".as_slice() && !columns.keys {
-        Some(KtColumns {
-            keys: true,
-            ..columns
-        })
+        columns.keys = true;
     } else if option == b"-e".as_slice() && !columns.etypes {
-        Some(KtColumns {
-            etypes: true,
-            ..columns
-        })
+        columns.etypes = true;
     } else {
-        None
+        return None;
     }
+    Some(columns)
 }
 
 /// Parses the options of a listing. Each may be given once.

@@ -1,8 +1,8 @@
 //! Parses the options of `add_entry`.
 
-ghost use Rattle.std.specs.Prelude.{◌≡◌, ◌<◌, ◌+◌, ◌∷◌, None, IfOk, IfSome, MatchOption, length};
+ghost use Rattle.std.specs.Prelude.{◌≡◌, ◌<◌, ◌+◌, ◌∷◌, true, Some, None, IfOk, IfSome, MatchOption, length};
 ghost use Rattle.krb_wire.specs.Reading.{principal_parts};
-ghost use Rattle.krb_ktutil.specs.KtutilCommand.{words, after, no_options, is_new_key, with_option, options_in, add_words, awaited_of, has_password, key_prompt};
+ghost use Rattle.krb_ktutil.specs.KtutilCommand.{words, no_options, is_new_key, with_option, options_in, awaited_by, awaited_of, has_password, key_prompt};
 ghost use Rattle.krb_text.specs.LineFault.{Reads};
 
 use crate::ktutil::awaiting::Addition;
@@ -37,27 +37,19 @@ impl<'a> Model for AddOptions<'a> {
 
 impl<'a> AddOptions<'a> {
     // Returns the options with one more, which has a value, or `None` if it is unknown or given twice.
-    fn with(self, option: &[u8], word: &'a [u8]) -> Option<AddOptions<'a>>
+    fn with(mut self, option: &[u8], word: &'a [u8]) -> Option<AddOptions<'a>>
         ensures { result ≡ with_option self.entry option.now word.now }
     {
         if option == b"-p".as_slice() && self.name.is_none() {
-            Some(AddOptions {
-                name: Some(word),
-                ..self
-            })
+            self.name = Some(word);
         } else if option == b"-k".as_slice() && self.kvno.is_none() {
-            Some(AddOptions {
-                kvno: Some(word),
-                ..self
-            })
+            self.kvno = Some(word);
         } else if option == b"-e".as_slice() && self.etype.is_none() {
-            Some(AddOptions {
-                etype: Some(word),
-                ..self
-            })
+            self.etype = Some(word);
         } else {
-            None
+            return None;
         }
+        Some(self)
     }
 
     // Returns whether an option is `-key`, for the first time.
@@ -119,8 +111,7 @@ fn addition_of<A: Allocator + Copy>(
     kvno: &[u8],
     etype: &[u8],
 ) -> Result<Addition<A>, LineRefusal>
-    ensures { Reads (λ x. x) (awaited_of
-        (record { name = name.now; version = kvno.now; enctype = etype.now })) result }
+    ensures { Reads (λ x. x) (awaited_by true (Some name.now) (Some kvno.now) (Some etype.now)) result }
 {
     let kvno = number_word(kvno)?;
     let enctype = etype_word(etype)?;
@@ -150,7 +141,7 @@ pub fn has_password(rest: &[u8]) -> bool
 
 /// Parses the words after `add_entry` as an entry whose key is still to come.
 pub fn addition<A: Allocator + Copy>(alloc: A, rest: &[u8]) -> Result<Addition<A>, LineRefusal>
-    ensures { Reads (λ x. x) (after awaited_of (add_words (words rest.now))) result }
+    ensures { Reads (λ x. x) (awaited_of (words rest.now)) result }
 {
     let options = options(rest).ok_or(LineFault::WordCount)?;
     let (true, Some(name), Some(kvno), Some(etype)) = (

@@ -199,7 +199,10 @@ impl<A: Allocator + Copy> Ktutil<A> {
         match &self.awaiting {
             Awaiting::Nothing => self.run_words(files, number, line),
             Awaiting::Key(_) => self.take_key(now, number, line),
-            Awaiting::Password => self.pass_over(),
+            Awaiting::Password => {
+                self.awaiting = Awaiting::Nothing;
+                Line::done(self.alloc)
+            }
         }
     }
 

@@ -54,10 +54,8 @@ fn word_size(text: &[u8]) -> usize
 
 /// Returns the first word of a line, and the rest of the line after it.
 pub fn next_word(line: &[u8]) -> Option<(&[u8], &[u8])>
-    ensures cut { MatchOption result (words line.now ≡ [])
-        (λ x. words line.now ≡ x.0.now ∷ words x.1.now) }
-    ensures shorter { MatchOption result (words line.now ≡ [])
-        (λ x. length x.1.now < length line.now) }
+    ensures { MatchOption result (words line.now ≡ [])
+        (λ x. (words line.now ≡ x.0.now ∷ words x.1.now) × (length x.1.now < length line.now)) }
 {
     let text = unindented(line);
     if text.is_empty() {

@@ -3,7 +3,7 @@
 ghost use Rattle.std.specs.Prelude.{[], ℕ, Ok, IsSome, IfSome};
 ghost use Rattle.krb_files.specs.Plan.{Ends};
 ghost use Rattle.krb_ktutil.specs.KtutilCommand.{words, addition};
-ghost use Rattle.krb_ktutil.specs.KtutilPlan.{awaited_entry, becomes, with_key, plan_of, Attempts, EndsAt, line_effect, key_line};
+ghost use Rattle.krb_ktutil.specs.KtutilPlan.{awaited_entry, with_key, plan_of, Attempts, EndsAt, line_effect, key_line};
 ghost use Rattle.krb_text.specs.LineFault.{Reads};
 
 use super::Ktutil;
@@ -69,14 +69,6 @@ impl<A: Allocator + Copy> Ktutil<A> {
         let addition = addition(self.alloc, rest)?;
         self.awaiting = Awaiting::Key(addition);
         Ok(Line::done(self.alloc))
-    }
-
-    // Passes over a line, which is a password.
-    pub(crate) fn pass_over<'l>(&mut self) -> Line<'l, A>
-        ensures { EndsAt (Ends (becomes (record self.old { awaiting = Awaiting.Nothing }))) self.old self.new (line_effect result) result.quits }
-    {
-        self.awaiting = Awaiting::Nothing;
-        Line::done(self.alloc)
     }
 }
 

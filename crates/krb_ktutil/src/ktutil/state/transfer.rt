@@ -3,7 +3,7 @@
 ghost use Rattle.std.specs.Prelude.{◌≡◌, ℕ, true, Ok, IfOk, IfErr};
 ghost use Rattle.krb_driver.specs.FileNames.{has_type};
 ghost use Rattle.krb_ktutil.specs.KtutilCommand.{ReadFile, WriteFile};
-ghost use Rattle.krb_ktutil.specs.KtutilPlan.{KtutilState, with_entries, reading_plan, writing_plan, saved_as, saved_verdict, written_to, command_plan, Comes, MakesLine, line_effect, none_added, with_added, RefusesAdded};
+ghost use Rattle.krb_ktutil.specs.KtutilPlan.{KtutilState, with_entries, writing_plan, saved_as, saved_verdict, written_to, command_plan, Comes, MakesLine, line_effect, none_added, with_added, RefusesAdded};
 ghost use Rattle.krb_files.specs.Plan.{Holds};
 ghost use Rattle.krb_keytab.specs.Store.{entries};
 
@@ -27,10 +27,7 @@ fn saved_verdict<B: Allocator>(keytab: &Keytab<B>, places: &[u32]) -> Verdict
     if keytab.entries().next().is_none() {
         return Verdict::NoEntry;
     }
-    match hides_added(keytab, places) {
-        Some(place) => Verdict::HiddenFrom(place),
-        None => Verdict::Well,
-    }
+    Verdict::Well.hiding(hides_added(keytab, places))
 }
 
 // Returns the line that saves a keytab, after entries were added to it at these places.
@@ -108,17 +105,6 @@ impl<A: Allocator + Copy> Ktutil<A> {
         }
     }
 
-    // Appends the entries of a file.
-    fn read_file<'l, F: Files>(&mut self, files: &mut F, number: u64, name: &'l str) -> Line<'l, A>
-        ensures { MakesLine F.Files (reading_plan self.old number name.now)
-            files.old files.new self.old self.new (line_effect result) result.quits }
-    {
-        match load_keytab(self.alloc, self.v1_order, files, name) {
-            Ok(keytab) => self.take_entries(number, name, &keytab),
-            Err(why) => Line::fails(name, RunError::from(why)),
-        }
-    }
-
     // Appends the entries of the file that a word names, unless its type is not read.
     pub(crate) fn read<'l, F: Files>(
         &mut self,
@@ -136,7 +122,10 @@ impl<A: Allocator + Copy> Ktutil<A> {
                 RunError::OtherType(FileKind::Keytab, NameSource::Word),
             );
         }
-        self.read_file(files, number, file.name)
+        match load_keytab(self.alloc, self.v1_order, files, file.name) {
+            Ok(keytab) => self.take_entries(number, file.name, &keytab),
+            Err(why) => Line::fails(file.name, RunError::from(why)),
+        }
     }
 
     // Adds the list to a file that is held.
