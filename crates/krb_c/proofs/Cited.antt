@@ -37,7 +37,7 @@ pub use Rattle.krb_ccache.specs.Store.{open_default, open_header, CacheState, cr
 pub use denote.Param.Send.{IsSend, EachSend, Frees, sendable, recorded_send, enum_send, AllSend, owning_send, struct_send}
 pub use Rattle.std_heap.specs.contracts.GlobalAllocator.TheImpl.{ghosts, dict}
 pub use Rattle.std.specs.Global.{Global}
-pub use Rattle.krb_c.specs.Walks.{are_places, AreKnown}
+pub use Rattle.krb_c.specs.Walks.{AreKnown}
 pub use denote.Triple.Call.{calls_at, calls_at_last}
 pub use denote.Triple.Clauses.{Ended, Clauses}
 pub use denote.Triple.Statement.{Triple, Contract}

@@ -1,6 +1,7 @@
 -- What is known of a store behind a handle, and the status of a refusal.
 use Rattle.std.proofs.Common.{◌≡◌, ℕ, Option, Some, None, Result, Ok, Err, sym, ap, subst, ◌∙◌, inl, inr, refl}
 use Rattle.std.specs.Prelude.{IfSome, IfOk, OnOk, List, [], ◌∷◌, true}
+use Rattle.std.specs.List.{list_all}
 use Rattle.krb_walk.specs.declared.refusal.Code.{Code}
 use Rattle.krb_walk.specs.declared.refusal.Refusal.{Refusal}
 use Rattle.krb_walk.specs.declared.refusal.Refusal.TheVariants.{Code as ByCode, NoMemory}
@@ -8,7 +9,7 @@ use Rattle.krb_walk.specs.Rules.{PutGives, CutGives}
 use Rattle.krb_walk.specs.Changes.{Puts, Cuts}
 use Rattle.krb_walk.specs.Events.{stop_cursor}
 use Rattle.krb_walk.specs.declared.stop.Stop.TheVariants.{Live}
-use Rattle.krb_c.proofs.Cited.{Store, IsPlace, IsSound, is_place, end_of, stop_at, AreKnown, are_places, AllByRecursion, Adds, refusal_status}
+use Rattle.krb_c.proofs.Cited.{Store, IsPlace, IsSound, is_place, end_of, stop_at, AreKnown, AllByRecursion, Adds, refusal_status}
 use Rattle.krb_walk.proofs.Cells.{stops_live}
 use Rattle.krb_walk.proofs.Lists.{some_is}
 use Rattle.krb_walk.proofs.Places.{Extends, puts-extends, cuts-extends, place_kept, stop_place}
@@ -42,10 +43,10 @@ module _ {S : Type 0} (seen : S → Store) where
   kept_by_cut k new given (Err code) p next gives cuts h = kept_same k new next gives.1 h
 
 -- cursors that were tested are places
-pub places_all : (s : Store) (cursors : List ℕ) → are_places s cursors ≡ true → AllByRecursion (IsPlace s) cursors
+pub places_all : (s : Store) (cursors : List ℕ) → list_all (is_place s) cursors ≡ true → AllByRecursion (IsPlace s) cursors
 places_all s [] e = tt
 places_all s (p ∷ ps) e =
-    let both = and_both (is_place s p) (are_places s ps) e in
+    let both = and_both (is_place s p) (list_all (is_place s) ps) e in
     (both.0, places_all s ps both.1)
 
 -- a refusal has its status, and changes neither the place nor the store

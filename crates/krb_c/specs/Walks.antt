@@ -1,5 +1,6 @@
 -- Steps of walks, over keytabs and caches alike.
-use Rattle.std.specs.Prelude.{◌≡◌, ℕ, Bool, true, false, Option, IsSome, IfSome, IsSomeAnd, List, [], ◌∷◌, ◌&&◌, Result, Err, if◌then◌else◌}
+use Rattle.std.specs.Prelude.{◌≡◌, ℕ, Bool, true, false, Option, IsSome, IfSome, IsSomeAnd, List, Result, Err, if◌then◌else◌}
+use Rattle.std.specs.List.{list_all}
 use Rattle.krb_walk.specs.declared.stop.Stop.{Stop}
 use Rattle.krb_walk.specs.declared.stop.Stop.TheVariants.{Live, End, Fault}
 use Rattle.krb_walk.specs.Store.{Store, IsPlace, is_place, live_bytes, stop_at}
@@ -30,11 +31,6 @@ module _ {Record Shown : Type 0} (at_place : ℕ → Option Record) (Shows : Sho
 
 -- ---- the cursors of walks
 
--- each is a place of the store
-abbrev pub are_places : Store → List ℕ → Bool
-are_places s [] = true
-are_places s (p ∷ ps) = is_place s p && are_places s ps
-
 -- the result of a rewrite with cursors: refused first if one of them is not a place
 abbrev pub with_cursors : {S : Type 0} → Store → List ℕ → Result S Code → Result S Code
-with_cursors s cursors given = if are_places s cursors then given else Err NotAPlace
+with_cursors s cursors given = if list_all (is_place s) cursors then given else Err NotAPlace

@@ -2,8 +2,9 @@
 
 ghost use Rattle.std.specs.Prelude.{◌≡◌, ◌⊎◌, Ok, map, IsSome, IsSomeAnd};
 ghost use Rattle.krb_walk.specs.Ranks.{carry};
-ghost use Rattle.krb_walk.specs.Store.{live_bytes};
-ghost use Rattle.krb_c.specs.Walks.{with_cursors, StepsOver, are_places};
+ghost use Rattle.std.specs.List.{list_all};
+ghost use Rattle.krb_walk.specs.Store.{is_place, live_bytes};
+ghost use Rattle.krb_c.specs.Walks.{with_cursors, StepsOver};
 ghost use Rattle.krb_c.specs.Status.{Adds, Changes, Rewrites};
 
 use crate::status::{AT_END, DONE, of_code, of_refusal};
@@ -12,14 +13,9 @@ use std::marker::Model;
 
 /// True if each cursor is a place of the store.
 pub fn are_places<P: Placed>(store: &P, cursors: &[u32]) -> bool
-    ensures { result ≡ are_places (P.rules.seen (P.state_of store.now)) cursors.now }
+    ensures { result ≡ list_all (is_place (P.rules.seen (P.state_of store.now))) cursors.now }
 {
-    for cursor in cursors {
-        if !store.is_place(*cursor) {
-            return false;
-        }
-    }
-    true
+    cursors.iter().all(|cursor| store.is_place(*cursor))
 }
 
 /// A store whose records C sees.
