@@ -39,20 +39,16 @@ header_read : (v : Version) (limit : ℕ) (bytes : List ℕ) (o : Option (List F
 header_read v limit bytes None k fits is e = absurd cc
 header_read v limit bytes (Some h) k fits is e = default_read v limit h.0 h.1 (cc_principal_at h.1) k (header_takes v bytes h fits is).rest_fits refl e
 
-within_read : (b : Bool) (v : Version) (limit : ℕ) (bytes : List ℕ) (k : CacheState) → IsBytes bytes → ◌≡◌ {A = Opened} (cond b (Err TooLarge) (open_header v limit (header_at v (drop 2 bytes)))) (Ok k) → WasRead k
-within_read true v limit bytes k fits e = absurd cc
-within_read false v limit bytes k fits e = header_read v limit (drop 2 bytes) (header_at v (drop 2 bytes)) k (IsBytes-drop 2 bytes fits) refl e
+unless : (refused : Bool) (why : CcOpenFault) (opened : Opened) (k : CacheState) → cond refused (Err why) opened ≡ Ok k → opened ≡ Ok k
+unless true why opened k e = absurd cc
+unless false why opened k e = e
 
 version_read : (limit : ℕ) (bytes : List ℕ) (o : Option Version) (k : CacheState) → IsBytes bytes → open_version limit bytes o ≡ Ok k → WasRead k
 version_read limit bytes None k fits e = absurd cc
-version_read limit bytes (Some v) k fits e = within_read (nat_lt limit (length bytes)) v limit bytes k fits e
-
-long_read : (b : Bool) (limit : ℕ) (bytes : List ℕ) (k : CacheState) → IsBytes bytes → ◌≡◌ {A = Opened} (cond b (Err TooShort) (open_version limit bytes (version_in bytes))) (Ok k) → WasRead k
-long_read true limit bytes k fits e = absurd cc
-long_read false limit bytes k fits e = version_read limit bytes (version_in bytes) k fits e
+version_read limit bytes (Some v) k fits e = header_read v limit (drop 2 bytes) (header_at v (drop 2 bytes)) k (IsBytes-drop 2 bytes fits) refl (unless (nat_lt limit (length bytes)) TooLarge _ k e)
 
 opened_read : (limit : ℕ) (bytes : List ℕ) (k : CacheState) → IsBytes bytes → open_result limit bytes ≡ Ok k → WasRead k
-opened_read limit bytes k fits e = long_read (nat_lt (length bytes) 2) limit bytes k fits e
+opened_read limit bytes k fits e = version_read limit bytes (version_in bytes) k fits (unless (nat_lt (length bytes) 2) TooShort _ k e)
 
 -- each credential of a cache is read where it is spelled
 cells_sound : (k : CacheState) (image : List ℕ) → IsBytes image → Reopens k image → AllByRecursion (IsCell (credentials_format k.version)) k.contents.cells

@@ -45,10 +45,6 @@ HasNone-left (x ∷ xs) ys h = (h.0, HasNone-left xs ys h.1)
 HasNone-take : (n : ℕ) (xs : List ℕ) → HasNone xs → HasNone (take n xs)
 HasNone-take n xs h = HasNone-left (take n xs) (drop n xs) (subst HasNone (sym (take-append-drop n xs)) h)
 
--- no newline up to a place, if there is none at all
-pub HasNone-up_to : (xs : List ℕ) (a most : ℕ) → HasNone (drop a xs) → HasNone (slice_range xs a most)
-HasNone-up_to xs a most h = HasNone-take (most - a) (drop a xs) h
-
 -- no newline up to a place, if there is none up to a later one
 pub HasNone-sooner : (xs : List ℕ) (a end most : ℕ) → most ≤ end → HasNone (slice_range xs a end) → HasNone (slice_range xs a most)
 HasNone-sooner xs a end most le h = subst HasNone (take-take (most - a) (end - a) (drop a xs) (omega (arith, le))) (HasNone-take (most - a) (slice_range xs a end) h)
@@ -68,6 +64,10 @@ IsFirst-earlier xs a b c le none first =
 pub HasNone-earlier : (xs : List ℕ) (a b : ℕ) → a ≤ b → HasNone (slice_range xs a b) → HasNone (drop b xs) → HasNone (drop a xs)
 HasNone-earlier xs a b le none rest =
     rw (drop_split xs a b le) (HasNone-append (slice_range xs a b) (drop b xs) none rest)
+
+-- nor up to another place
+pub none_up_to : (xs : List ℕ) (a b most : ℕ) → a ≤ b → HasNone (slice_range xs a b) → HasNone (drop b xs) → HasNone (slice_range xs a most)
+none_up_to xs a b most le none rest = HasNone-take (most - a) (drop a xs) (HasNone-earlier xs a b le none rest)
 
 -- the bytes up to the old end have no newline, also after a read
 pub HasNone-grown : (old new given : List ℕ) (a : ℕ) → new ≡ old ++ given → a ≤ length old → HasNone (drop a old) → HasNone (slice_range new a (length old))

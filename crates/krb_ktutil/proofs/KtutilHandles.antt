@@ -111,13 +111,9 @@ module _ {F : Type 0} (trait : Ghosts F) where
   pub tries_words : {A : Type 0} (line word rest : List ℕ) (count : ℕ) (verb : Option Verb) (files files' : F) (old new : KtutilState) (number : ℕ) (made : Result (Line A) LineRefusal) → words line ≡ word ∷ words rest → verb ≡ verb_of word → Tries trait files files' old number (command_by count verb (words rest)) new made → Tries trait files files' old number (command_of line count) new made
   tries_words line word rest count verb files files' old new number made cut is tries = rw (cut, sym is) tries
 
-  -- a line that is not awaited, and a password
-  pub makes_words : (s new : KtutilState) (now number : ℕ) (line : List ℕ) (files files' : F) (effect : Effect) (quits : Bool) → s.awaiting ≡ Nothing → MakesLine trait (words_plan s number (words line) (command_of line (length s.entries))) files files' s new effect quits → MakesLine trait (plan_of s now number line) files files' s new effect quits
-  makes_words s new now number line files files' effect quits is makes = subst (λ (a : Awaiting Awaited). MakesLine trait (plan_by s now number line a) files files' s new effect quits) (sym is) makes
-
-  pub makes_passed : (s new : KtutilState) (now number : ℕ) (line : List ℕ) (files : F) (effect : Effect) (quits : Bool) → s.awaiting ≡ Password → EndsAt (Ends (becomes (record s { awaiting = Nothing }))) s new effect quits → MakesLine trait (plan_of s now number line) files files s new effect quits
-  makes_passed s new now number line files effect quits is ends =
-      subst (λ (a : Awaiting Awaited). MakesLine trait (plan_by s now number line a) files files s new effect quits) (sym is) (makes_end (Ends (becomes (record s { awaiting = Nothing }))) files s new effect quits ends)
+  -- a line, by what is awaited
+  pub makes_by : (s new : KtutilState) (now number : ℕ) (line : List ℕ) (awaiting : Awaiting Awaited) (files files' : F) (effect : Effect) (quits : Bool) → s.awaiting ≡ awaiting → MakesLine trait (plan_by s now number line awaiting) files files' s new effect quits → MakesLine trait (plan_of s now number line) files files' s new effect quits
+  makes_by s new now number line awaiting files files' effect quits is makes = subst (λ (a : Awaiting Awaited). MakesLine trait (plan_by s now number line a) files files' s new effect quits) (sym is) makes
 
   module _ (A : Type 0) (files files' : F) (old new : KtutilState) (number : ℕ) (line : List (List ℕ)) where
     -- a command was run
@@ -153,4 +149,4 @@ pub ruleset commands = (makes_end, tries_words)
 
 pub ruleset outcomes = (tried_line, tried_spent, tried_fault)
 
-pub ruleset lines = (makes_end, makes_words, makes_passed)
+pub ruleset lines = (makes_end, makes_by)

@@ -21,12 +21,9 @@ fn version_in(image: &[u8]) -> Option<Version>
     requires { 2 ≤ length image.now }
     ensures { result ≡ version_in image.now }
 {
-    if image[0] != 5 {
-        return None;
-    }
-    match image[1] {
-        3 => Some(Version::V3),
-        4 => Some(Version::V4),
+    match (image[0], image[1]) {
+        (5, 3) => Some(Version::V3),
+        (5, 4) => Some(Version::V4),
         _ => None,
     }
 }
@@ -40,9 +37,7 @@ fn look_at_front(image: &[u8], limits: Limits) -> Result<(), CcOpenFault>
     if image.len() < 2 {
         return Err(CcOpenFault::TooShort);
     }
-    let Some(_version) = version_in(image) else {
-        return Err(CcOpenFault::BadVersion);
-    };
+    let _version = version_in(image).ok_or(CcOpenFault::BadVersion)?;
     if image.len() > limits.image() as usize {
         return Err(CcOpenFault::TooLarge);
     }

@@ -31,12 +31,9 @@ fn format_in(v1_order: Order, image: &[u8]) -> Option<KtFormat>
     requires { 2 ≤ length image.now }
     ensures { result ≡ format_of v1_order image.now }
 {
-    if image[0] != 5 {
-        return None;
-    }
-    match image[1] {
-        1 => Some(KtFormat::V1(v1_order)),
-        2 => Some(KtFormat::V2),
+    match (image[0], image[1]) {
+        (5, 1) => Some(KtFormat::V1(v1_order)),
+        (5, 2) => Some(KtFormat::V2),
         _ => None,
     }
 }
@@ -49,9 +46,7 @@ fn look_at_front(image: &[u8], v1_order: Order, limits: Limits) -> Result<(), Kt
     if image.len() < 2 {
         return Err(KtOpenFault::TooShort);
     }
-    let Some(_format) = format_in(v1_order, image) else {
-        return Err(KtOpenFault::BadVersion);
-    };
+    let _format = format_in(v1_order, image).ok_or(KtOpenFault::BadVersion)?;
     if image.len() > limits.image() as usize {
         return Err(KtOpenFault::TooLarge);
     }

@@ -1,13 +1,12 @@
 //! What the next line of ktutil is, and an entry whose key is still to come.
 
 ghost use Rattle.std.specs.Prelude.{◌≡◌};
-ghost use Rattle.krb_ktutil.specs.KtutilPlan.{awaited_entry, is_pending};
+ghost use Rattle.krb_ktutil.specs.KtutilPlan.{is_pending};
 ghost use Rattle.krb_ktutil.specs.KtutilTalk.{prompt_of};
 
 use krb_wire::Principal;
 use std::alloc::Allocator;
 use std::marker::Model;
-use std::mem;
 
 /// What the next line is: a command, the key of an entry, or a password, which is passed over.
 #[derive(Drop)]
@@ -23,17 +22,6 @@ impl<K: Drop> Awaiting<K> {
         ensures { result ≡ is_pending self.now }
     {
         !matches!(self, Awaiting::Nothing)
-    }
-
-    /// Takes out the entry that awaits its key, if there is one. Nothing is awaited then.
-    pub fn take_entry(&mut self) -> Option<K>
-        ensures taken { result ≡ awaited_entry self.old }
-        ensures nothing { self.new ≡ Awaiting.Nothing }
-    {
-        match mem::replace(self, Awaiting::Nothing) {
-            Awaiting::Key(entry) => Some(entry),
-            _ => None,
-        }
     }
 }
 

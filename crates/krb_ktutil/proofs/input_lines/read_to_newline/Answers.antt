@@ -1,4 +1,4 @@
-use Rattle.krb_ktutil.proofs.ForAnswers.{◌≡◌, ◌∙◌, length, drop, arith, err_from_is_err_and, HasNone, Grows-trans, IsFirst-earlier, HasNone-earlier, HasNone-grown, HasNone-sooner, HasNone-up_to}
+use Rattle.krb_ktutil.proofs.ForAnswers.{◌≡◌, ◌∙◌, length, drop, arith, err_from_is_err_and, HasNone, Grows-trans, IsFirst-earlier, HasNone-earlier, HasNone-grown, HasNone-sooner, none_up_to}
 use Rattle.krb_ktutil.proofs.input_lines.read_to_newline.Goals as goal
 
 -- the newline is beyond what an input may have
@@ -9,16 +9,13 @@ returns-in-Some-clause-none g c =
 
 -- there is no newline, and no more may be read
 pub returns-then-seen-most-clause-none : goal.returns-then-seen-most-clause-none
-returns-then-seen-most-clause-none g c =
-    let bytes = c.reads.bytes.items in
-    HasNone-up_to bytes c.args.next 16777216 (HasNone-earlier bytes c.args.next c.reads.seen c.reads.invariant.ahead.0 c.reads.invariant.none (rw (c.deref.ensures.value) at c.in_default.ensures))
+returns-then-seen-most-clause-none g c = none_up_to c.reads.bytes.items c.args.next c.reads.seen 16777216 c.reads.invariant.ahead.0 c.reads.invariant.none (rw (c.deref.ensures.value) at c.in_default.ensures)
 
 -- there is no newline, and the read failed
 pub returns-in_err-last-clause-none : goal.returns-in_err-last-clause-none
 returns-in_err-last-clause-none g c =
-    let bytes = c.reads.bytes.items in
     let p = err_from_is_err_and c.from_residual.result c.from_residual.ensures.1 in
-    rw (p.1, c.in_err-last.ensures.same) (HasNone-up_to bytes c.args.next 16777216 (HasNone-earlier bytes c.args.next c.reads.seen c.reads.invariant.ahead.0 c.reads.invariant.none (rw (c.deref.ensures.value) at c.in_default.ensures)))
+    rw (p.1, c.in_err-last.ensures.same) (none_up_to c.reads.bytes.items c.args.next c.reads.seen 16777216 c.reads.invariant.ahead.0 c.reads.invariant.none (rw (c.deref.ensures.value) at c.in_default.ensures))
 
 -- more was given
 pub reads-preserved : goal.reads-preserved

@@ -16,6 +16,7 @@ use krb_driver::RunError;
 use krb_keytab::NewEntry;
 use krb_text::{LineFault, LineRefusal, parse_key};
 use std::alloc::Allocator;
+use std::mem;
 
 impl<A: Allocator + Copy> Ktutil<A> {
     // Adds the entry that awaits its key, with the time `now`.
@@ -27,7 +28,7 @@ impl<A: Allocator + Copy> Ktutil<A> {
         let Ok(()) = self.entries.reserve(1) else {
             return Line::fails("", RunError::NoMemory);
         };
-        let Some(addition) = self.awaiting.take_entry() else {
+        let Awaiting::Key(addition) = mem::replace(&mut self.awaiting, Awaiting::Nothing) else {
             unreachable!()
         };
         let entry = NewEntry {
