@@ -1,6 +1,6 @@
 -- The names that the proofs cite most, passed on from one place. Declares nothing.
 unfoldable pub use contract.Running.{tables_of}
-pub use Rattle.std.proofs.Common.{◌≡◌, subst, refl, inr, inl, drop}
+pub use Rattle.std.proofs.Common.{◌≡◌, subst, refl, inr, inl}
 pub use Rattle.std.proofs.alloc.Calls.{handle_tells, token, Goes-blank}
 pub use Rattle.std.specs.Prelude.{None, Some, Option, find, ◌⊎◌, ◌==◌, Err, IfErr, option_map, IsOk, Result, ℕ, Ok, nat_lt}
 pub use Rattle.std_alloc.proofs.BoxSteps.Form.{D, B, box_typed, word, Bx, τ, P, R, args, box_ty}

@@ -1,5 +1,5 @@
 -- Lines that were read from an input, which is split at newlines.
-use Rattle.krb_ktutil.proofs.Cited.{onto_first, ◌≡◌, ℕ, ◌+◌, ◌-◌, ◌<◌, ◌≤◌, List, [], ◌∷◌, ◌++◌, length, take, drop, Option, Some, None, refl, sym, ap, subst, ◌∙◌, arith, length-append, append_assoc, append-nil, take-add, slice_range, lines_of, HasNone, Grows, drop-drop, Keeps, take-append-drop, take-take, is_newline, IsFirst, inl, inr, IfSome, length-drop, nat_lt, IsAtEnd, take_all, take-append-le, length-take-le, drop_all, drop-append-le, lt-ltb, le-ltb, InputParts, ReadsLine, AreFirst, nil_from_length, common_steps, Consumes-trans, take-append_seam, leb_tells, Bool, true, false, Consumes, with_newlines, flat_map-append, IsSpent, IsWithin, HasNoMore, CutsOff, most_bytes, ◌⊎◌, false≢true, nat_tests}
+use Rattle.krb_ktutil.proofs.Cited.{onto_first, ◌≡◌, ℕ, ◌+◌, ◌-◌, ◌<◌, ◌≤◌, List, [], ◌∷◌, ◌++◌, length, take, drop, Option, Some, None, refl, sym, ap, subst, ◌∙◌, arith, length-append, append_assoc, append-nil, take-add, slice_range, lines_of, HasNone, Grows, drop-drop, Keeps, take-append-drop, take-take, IsFirst, inl, inr, IfSome, length-drop, nat_lt, IsAtEnd, take_all, take-append-le, length-take-le, drop_all, lt-ltb, InputParts, ReadsLine, AreFirst, nil_from_length, common_steps, Consumes-trans, take-append_seam, true, false, Consumes, with_newlines, flat_map-append, IsSpent, IsWithin, HasNoMore, CutsOff, most_bytes, ◌⊎◌, false≢true, nat_tests}
 use Rattle.std.specs.List.{AllByRecursion}
 use Rattle.std.proofs.lemmas.List.Folds.{drop_split}
 

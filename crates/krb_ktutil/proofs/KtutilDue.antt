@@ -1,5 +1,5 @@
 -- What a line of ktutil comes to: what it leaves, and that it is what is due over honest files.
-use Rattle.krb_ktutil.proofs.Cited.{◌≡◌, ◌⊎◌, inl, inr, ◌∙◌, ℕ, ◌≤◌, Bool, true, false, List, [], ◌∷◌, length, refl, sym, ap, subst, arith, Option, Result, Ok, Err, Code, KeytabState, Ghosts, Watch, Ends, LineFault, Effect, Fails, ErrorWatch, Awaited, words, Awaiting, Nothing, KtutilState, Came, Added, fails, line_faults, none_added, with_added, plan_of, EndsAt, IsCame, is_some, cond, store_of, Answer, Holds, Loads, by, follow, bare_name, has_type, is_other_type, keytab_of, keytab_or_new, is_spent, no_keytab_error, Command, Skip, ListSlots, ReadFile, WriteFile, AwaitKey, DeleteSlot, ClearList, Quit, asks_for_password, command_of, Key, Password, LinePlan, after_fault, with_entries, saved_as, written_to, key_line, with_key, command_plan, plan_by, words_plan, MakesLine, Spares, cond_both, fault_of, CountsFailure, Lasts, comes, loaded-lasts, NoKeytab, Keytab, finishes-keeps, finishes-lasts, asks_for_help, fault_error}
+use Rattle.krb_ktutil.proofs.Cited.{◌≡◌, ◌⊎◌, inl, inr, ◌∙◌, ℕ, ◌≤◌, Bool, true, false, List, [], ◌∷◌, length, refl, sym, ap, subst, arith, Option, Result, Ok, Err, Code, KeytabState, Ghosts, Watch, Ends, LineFault, Effect, Fails, ErrorWatch, Awaited, words, Awaiting, Nothing, KtutilState, Came, Added, fails, line_faults, none_added, with_added, plan_of, EndsAt, IsCame, is_some, store_of, Answer, Holds, Loads, by, follow, bare_name, has_type, is_other_type, keytab_of, keytab_or_new, is_spent, no_keytab_error, Command, Skip, ListSlots, ReadFile, WriteFile, AwaitKey, DeleteSlot, ClearList, Quit, asks_for_password, command_of, Key, Password, LinePlan, after_fault, with_entries, saved_as, written_to, key_line, with_key, command_plan, plan_by, words_plan, MakesLine, Spares, cond_both, fault_of, CountsFailure, Lasts, comes, loaded-lasts, NoKeytab, Keytab, finishes-keeps, finishes-lasts, asks_for_help, fault_error}
 use Rattle.krb_files.specs.declared.files.LoadFault.TheVariants as load
 use Rattle.krb_text.specs.declared.line_fault.LineFault.TheVariants as fault
 use Rattle.krb_driver.specs.declared.command.RunEnd.{RunEnd}

@@ -1,5 +1,5 @@
 -- A line was made by its plan, from its steps, and with the entries of a keytab.
-use Rattle.krb_ktutil.proofs.Cited.{◌≡◌, ◌∙◌, sym, ℕ, List, [], ◌∷◌, Option, Some, None, refl, ap, Result, Ok, Err, EntryParts, KeytabState, Code, Added, with_added, map, option_map, filter_map, cons_option, entry_at, store_of, entries, result_map, more_added, RefusesAdded, inl, inr, Bool, true, false, length, subst, false≢true, Ghosts, Ends, LineFault, words, Effect, Fails, Awaited, Awaiting, Nothing, KtutilState, Came, plan_of, fails, line_faults, none_added, EndsAt, IsCame, line_effect, Answer, LoadsFile, Holds, Loads, by, has_type, keytab_of, keytab_or_new, Gives, GivesOrRunsOut, AwaitKey, Command, WriteFile, after, asks_for_password, command_by, command_of, verb_of, Password, LinePlan, after_fault, becomes, plan_by, command_plan, reading_plan, saved_as, with_entries, words_plan, writing_plan, written_to, Attempts, Comes, MakesLine, RunsOut, Tries, Record, records, Order, LineRefusal, Reads, NoKeytab, fault_error}
+use Rattle.krb_ktutil.proofs.Cited.{◌≡◌, ◌∙◌, sym, ℕ, List, [], ◌∷◌, Option, Some, None, refl, ap, Result, Ok, Err, EntryParts, KeytabState, Code, Added, with_added, map, option_map, filter_map, cons_option, entry_at, store_of, entries, result_map, more_added, RefusesAdded, inl, inr, Bool, true, false, subst, false≢true, Ghosts, Ends, LineFault, words, Effect, Fails, Awaited, Awaiting, KtutilState, Came, plan_of, fails, line_faults, none_added, EndsAt, IsCame, line_effect, Answer, LoadsFile, Holds, Loads, by, has_type, keytab_of, keytab_or_new, Gives, GivesOrRunsOut, AwaitKey, Command, WriteFile, after, asks_for_password, command_by, command_of, verb_of, LinePlan, after_fault, plan_by, command_plan, reading_plan, saved_as, with_entries, words_plan, writing_plan, written_to, Attempts, Comes, MakesLine, RunsOut, Tries, Record, records, Order, LineRefusal, Reads, NoKeytab, fault_error}
 use Rattle.krb_wire.specs.declared.format.KtFormat.{KtFormat}
 use Rattle.krb_keytab.specs.Find.{PlacedEntry, placed_entries}
 use Rattle.krb_keytab.specs.Changes.{put_result}

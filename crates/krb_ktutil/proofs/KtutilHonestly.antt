@@ -1,5 +1,5 @@
 -- The lines of ktutil leave what is due over honest files.
-use Rattle.krb_ktutil.proofs.Cited.{◌≡◌, ◌⊎◌, inl, inr, ℕ, ◌+◌, ◌≤◌, Bool, true, false, List, [], ◌∷◌, ◌++◌, length, refl, sym, ap, subst, ◌∙◌, append_assoc, append-nil, arith, not, max, ◌&&◌, Option, None, Some, Err, false≢true, Ghosts, Watch, Effect, Fails, ErrorWatch, input_error, error_status, IsCame, Came, KtutilState, line_faults, plan_of, Prompts, Talk, goes_on, HandlesLine, IsFalse, if◌then◌else◌, Appends, true≢false, follow, Run, Reports, Shows, ends_by, Ending, is_spent, ReportsEnd-nothing, Spares, prompt_of, AreFirst, Continues, Stops, TalksOver, LoadFault, FileMap, SameFiles, CountsFailure, count-more, count-trans, same-trans, Appends-nil, Appends-trans, NoMemory, Details, finishes-lasts, cond_both, TalkDue, DueReport, ReportsDue, quiet_run, final_report, line_report, last_due, due_after, run_of, talk_due, GivesLines, LeavesDue, LeavesDueUnlessFailed, TalksHonestly, Source, EndsTalk, end_status-none, final_prompt}
+use Rattle.krb_ktutil.proofs.Cited.{◌≡◌, ◌⊎◌, inl, inr, ℕ, ◌+◌, ◌≤◌, Bool, true, false, List, [], ◌∷◌, ◌++◌, length, refl, sym, ap, subst, ◌∙◌, append_assoc, append-nil, arith, not, max, ◌&&◌, Option, None, Some, Err, false≢true, Ghosts, Watch, Effect, Fails, ErrorWatch, input_error, error_status, IsCame, Came, KtutilState, line_faults, plan_of, Prompts, Talk, goes_on, HandlesLine, IsFalse, Appends, true≢false, follow, Run, Reports, Shows, ends_by, Ending, is_spent, ReportsEnd-nothing, Spares, prompt_of, AreFirst, HandlesNext, TalksOver, LoadFault, FileMap, SameFiles, CountsFailure, count-more, count-trans, same-trans, Appends-nil, Appends-trans, NoMemory, Details, finishes-lasts, cond_both, TalkDue, DueReport, ReportsDue, quiet_run, final_report, line_report, last_due, due_after, run_of, talk_due, GivesLines, LeavesDue, LeavesDueUnlessFailed, TalksHonestly, Source, EndsTalk, end_status-none, final_prompt}
 use Rattle.std.proofs.Math.Bool.{and-false}
 use mathlib.Core.Path.{fun_ext}
 use Rattle.krb_files.specs.declared.aftermath.Aftermath.{Aftermath}
@@ -142,30 +142,30 @@ module _ {F : Type 0} (trait : Ghosts F) (prompts : Bool) (now number : ℕ) (li
 talk_lasts : {F : Type 0} (trait : Ghosts F) (prompts : Bool) (now number : ℕ) (lines : List (List ℕ)) (old new : Talk F) → TalksOver trait now prompts number lines old new → (trait.is_honest old.files → trait.is_honest new.files) × (trait.failure_count old.files ≤ trait.failure_count new.files)
 talk_lasts {F = F} trait prompts now number [] old new talked = subst (λ (t : Talk F). (trait.is_honest old.files → trait.is_honest t.files) × (trait.failure_count old.files ≤ trait.failure_count t.files)) (sym talked) (λ h. h, omega arith)
 talk_lasts trait prompts now number (line ∷ lines) old new talked =
-    let first = handles_lasts trait prompts now number line old talked.1 talked.0 talked.2 talked.3.handles in
+    let first = handles_lasts trait prompts now number line old talked.1 talked.0 talked.2 talked.3.0 in
     let others = talk_lasts trait prompts now (number + 1) lines talked.1 new talked.4 in
     (λ h. others.0 (first.0 h), omega (arith, first.1, others.1))
 
 module _ {F : Type 0} (trait : Ghosts F) (prompts : Bool) (now : ℕ) (final : Run) where
   -- a line was run and goes on
   line_honestly : (number : ℕ) (line : List ℕ) (more : List (List ℕ)) (old mid new : Talk F) → trait.is_honest old.files → (asked : ErrorWatch) (prompted : Prompts prompts (prompt_of old.state.awaiting) old.err asked)
-      (continues : Continues trait now number line (record old { err = asked }) mid) → trait.failure_count mid.files ≤ trait.failure_count new.files
-      → LineDue trait prompts now number line old mid asked prompted continues.handles ⊎ (CountsFailure (trait.failure_count old.files) (trait.failure_count mid.files) ⊎ LineSpent trait prompts now number line old mid asked prompted continues.handles)
+      (continues : HandlesNext trait now number line (record old { err = asked }) mid true) → trait.failure_count mid.files ≤ trait.failure_count new.files
+      → LineDue trait prompts now number line old mid asked prompted continues.0 ⊎ (CountsFailure (trait.failure_count old.files) (trait.failure_count mid.files) ⊎ LineSpent trait prompts now number line old mid asked prompted continues.0)
       → LeavesDueUnlessFailed trait prompts (talk_due final now (number + 1) more mid.state (trait.file mid.files)) mid new
       → LeavesDueUnlessFailed trait prompts (talk_due final now number (line ∷ more) old.state (trait.file old.files)) old new
   line_honestly number line more old mid new honest asked prompted continues le comes (inl counts) =
-      inl (count-trans (trait.failure_count old.files) (trait.failure_count mid.files) (trait.failure_count new.files) (handles_lasts trait prompts now number line old mid asked prompted continues.handles).1 le counts)
+      inl (count-trans (trait.failure_count old.files) (trait.failure_count mid.files) (trait.failure_count new.files) (handles_lasts trait prompts now number line old mid asked prompted continues.0).1 le counts)
   line_honestly number line more old mid new honest asked prompted continues le comes (inr (inl failed)) = inr (inl failed)
   line_honestly number line more old mid new honest asked prompted continues le (inl is) (inr (inr leaves)) =
-      let left = leaves_due trait prompts now number line old mid asked prompted continues.handles honest is continues.well in
-      let came = due trait prompts now number line old mid asked prompted continues.handles in
+      let left = leaves_due trait prompts now number line old mid asked prompted continues.0 honest is continues.2 in
+      let came = due trait prompts now number line old mid asked prompted continues.0 in
       let after = subst (λ (m : FileMap). LeavesDue trait prompts (talk_due final now (number + 1) more came.state m) mid new) (fun_ext is.1.1)
       (subst (λ (s : KtutilState). LeavesDue trait prompts (talk_due final now (number + 1) more s (trait.file mid.files)) mid new) is.0.state_is leaves) in
-      inr (inr (rw (sym left.0 ∙ continues.goes_on) (leaves_first trait prompts (run_of came.effect).out (line_report old.state.awaiting number came.effect) (files_after (trait.file old.files) came.effect) old mid left.1 _ new after)))
+      inr (inr (rw (sym left.0 ∙ continues.1) (leaves_first trait prompts (run_of came.effect).out (line_report old.state.awaiting number came.effect) (files_after (trait.file old.files) came.effect) old mid left.1 _ new after)))
   line_honestly number line more old mid new honest asked prompted continues le (inr (inl counted)) (inr (inr leaves)) = inl (count-more (trait.failure_count old.files) (trait.failure_count mid.files) (trait.failure_count new.files) le counted)
   line_honestly number line more old mid new honest asked prompted continues le (inr (inr spent)) (inr (inr leaves)) =
-      let ending_is = (leaves_spent trait prompts now number line old mid asked prompted continues.handles honest spent continues.well).0 in
-      absurd (false≢true (sym (and-false (not continues.handles.quits)) ∙ (rw ending_is at continues.goes_on)))
+      let ending_is = (leaves_spent trait prompts now number line old mid asked prompted continues.0 honest spent continues.2).0 in
+      absurd (false≢true (sym (and-false (not continues.0.quits)) ∙ (rw ending_is at continues.1)))
 
   -- lines were run, and what is due after the following lines was left
   talk_honestly : (lines : List (List ℕ)) (number : ℕ) (more : List (List ℕ)) (old last new : Talk F) → TalksOver trait now prompts number lines old last → trait.is_honest old.files
@@ -176,17 +176,17 @@ module _ {F : Type 0} (trait : Ghosts F) (prompts : Bool) (now : ℕ) (final : R
       subst (λ (t : Talk F). LeavesDueUnlessFailed trait prompts (talk_due final now number more t.state (trait.file t.files)) t new) talked (rest number (omega arith))
   talk_honestly (line ∷ lines) number more old last new talked honest le rest =
       let mid = talked.1 in
-      let handles = talked.3.handles in
+      let handles = talked.3.0 in
       line_honestly number line (lines ++ more) old mid new honest talked.0 talked.2 talked.3 (omega (arith, (talk_lasts trait prompts now (number + 1) lines mid last talked.4).1, le)) (line_comes trait prompts now number line old mid talked.0 talked.2 handles honest)
       (talk_honestly lines (number + 1) more mid last new talked.4 ((handles_lasts trait prompts now number line old mid talked.0 talked.2 handles).0 honest) le (λ next is. rest next (omega (arith, is))))
 
   -- a line was the last
   stop_honestly : (number : ℕ) (line : List ℕ) (more : List (List ℕ)) (last new : Talk F) → trait.is_honest last.files → (asked : ErrorWatch) (prompted : Prompts prompts (prompt_of last.state.awaiting) last.err asked)
-      (stops : Stops trait now number line (record last { err = asked }) new) → LineDue trait prompts now number line last new asked prompted stops.handles
+      (stops : HandlesNext trait now number line (record last { err = asked }) new false) → LineDue trait prompts now number line last new asked prompted stops.0
       → LeavesDueUnlessFailed trait prompts (talk_due final now number (line ∷ more) last.state (trait.file last.files)) last new
-  stop_honestly number line more last new honest asked prompted stops is = elim stops.why [
+  stop_honestly number line more last new honest asked prompted stops is = elim stops.1 [
     | inl ended ↦ unless_failed trait prompts _ last new new.out.failed refl (λ well.
-        let left = leaves_due trait prompts now number line last new asked prompted stops.handles honest is well in
+        let left = leaves_due trait prompts now number line last new asked prompted stops.0 honest is well in
         rw (sym left.0 ∙ ended) left.1)
     | inr failed ↦ inr (inl failed)
   ]
@@ -231,7 +231,7 @@ module _ {F : Type 0} (trait : Ghosts F) (prompts : Bool) (now : ℕ) (input inp
   honest_ends (inr (inl e)) honest =
       let still = (talk_lasts trait prompts now 1 lines first last talked).0 honest in
       let number = length lines + 1 in
-      let handles = e.stops.handles in
+      let handles = e.stops.0 in
       let rest = lines_after input.left (lines ++ e.line ∷ []) e.first in
       let all = subst (AreLines input.left) (append_assoc lines (e.line ∷ []) rest.0) rest.1 in
       let le = (handles_lasts trait prompts now number e.line last end e.asked e.prompted handles).1 in

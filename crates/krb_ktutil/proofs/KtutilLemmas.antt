@@ -1,5 +1,5 @@
 -- The lines of ktutil, one after the other, and their prompts.
-use Rattle.krb_ktutil.proofs.Cited.{◌≡◌, ℕ, Bool, true, false, List, [], ◌++◌, refl, sym, Result, Ok, Err, false≢true, Watch, ErrorWatch, Prompts, OnOk, OnErr, is_err, IsFalse, Appends, AppendsPrefix, WritesOn, Writes-nothing, PromptsOn, inl, inr, ◌⊎◌, ◌+◌, ◌<◌, ◌≤◌, ◌∷◌, length, length-append, subst, arith, max, not, ◌&&◌, Option, None, Some, IfSome, Ghosts, input_error, error_status, Grows, Talk, first_talk, goes_on, HandlesLine, ◌≢◌, ◌||◌, Consumes, InputParts, HasNoMore, IsWithin, most_bytes, Continues, EndsTalk, Stops, TalksOver, prompt_of, last_prompt, Source, is_failed, Appends-trans, AppendsPrefix-after, AppendsPrefix-all, Order, LoadFault, HandlesNext, RunsKtutil, Details, nat_tests, ReportsEnd, ReadsLine, ◌∙◌, append_assoc, append-nil}
+use Rattle.krb_ktutil.proofs.Cited.{◌≡◌, ℕ, Bool, true, false, List, [], ◌++◌, refl, sym, Result, Ok, Err, false≢true, Watch, ErrorWatch, Prompts, OnOk, OnErr, is_err, IsFalse, Appends, AppendsPrefix, WritesOn, Writes-nothing, PromptsOn, inl, inr, ◌+◌, ◌<◌, ◌≤◌, ◌∷◌, length, length-append, subst, arith, max, not, ◌&&◌, Option, None, Some, Ghosts, input_error, error_status, Grows, Talk, first_talk, goes_on, HandlesLine, ◌≢◌, ◌||◌, Consumes, InputParts, HasNoMore, IsWithin, most_bytes, EndsTalk, TalksOver, prompt_of, last_prompt, Source, is_failed, Appends-trans, AppendsPrefix-after, AppendsPrefix-all, Order, LoadFault, HandlesNext, RunsKtutil, Details, nat_tests, ReportsEnd, ReadsLine, ◌∙◌, append_assoc, append-nil}
 use Rattle.krb_files.specs.declared.files.LoadFault.TheVariants.{Missing, TooLarge}
 use Rattle.krb_driver.specs.declared.command.World.{World}
 use Rattle.krb_ktutil.proofs.InputLemmas.{HasRead, HasRead-end, HasRead-first, HasRead-line, consumed, consumed_as, due_of, if_some}
@@ -34,9 +34,9 @@ none_consumed (Some bytes) = refl
 -- the end of a line decides whether another may come, and the output
 pub HandlesNext-by : {F : Type 0} (trait : Ghosts F) (now number : ℕ) (line : List ℕ) (old new : Talk F) (handles : HandlesLine trait now number line old new)
     → (goes failed : Bool) → goes ≡ goes_on handles.quits handles.end.ending → failed ≡ new.out.failed → HandlesNext trait now number line old new (goes && not failed)
-HandlesNext-by trait now number line old new handles true true goes is = record { handles = handles; why = inr (sym is) }
-HandlesNext-by trait now number line old new handles true false goes is = record { handles = handles; goes_on = sym goes; well = sym is }
-HandlesNext-by trait now number line old new handles false failed goes is = record { handles = handles; why = inl (sym goes) }
+HandlesNext-by trait now number line old new handles true true goes is = (handles, inr (sym is))
+HandlesNext-by trait now number line old new handles true false goes is = (handles, sym goes, sym is)
+HandlesNext-by trait now number line old new handles false failed goes is = (handles, inl (sym goes))
 
 -- lines were run, and the run goes on
 pub record Underway {F : Type 0} (trait : Ghosts F) (prompts : Bool) (now : ℕ) (given : Option (List ℕ)) (first : Talk F) (input : InputParts) (left : Option (List ℕ)) (number : ℕ) (talk : Talk F) : Type 0 where
@@ -63,7 +63,7 @@ module _ {F : Type 0} (trait : Ghosts F) (prompts : Bool) (now : ℕ) (given : O
 
   pub Underway-line : (first : Talk F) (old new : InputParts) (left left' : Option (List ℕ)) (number : ℕ) (talk talk' : Talk F) (asked : ErrorWatch) → Underway trait prompts now given first old left number talk
       → ReadsLine true old new left' → Grows old.read new.read left left' → IsWithin new
-      → Prompts prompts (prompt_of talk.state.awaiting) talk.err asked → Continues trait now (number + 1) new.line (record talk { err = asked }) talk'
+      → Prompts prompts (prompt_of talk.state.awaiting) talk.err asked → HandlesNext trait now (number + 1) new.line (record talk { err = asked }) talk' true
       → Underway trait prompts now given first new left' (number + 1) talk'
   Underway-line first old new left left' number talk talk' asked u reads grows within prompted continues =
       let counted = u.counted in
@@ -103,7 +103,7 @@ module _ {F R W E : Type 0} (trait : Ghosts F) (prompts : Bool) (now : ℕ) (ord
       runs (record talk { err = err' }) (inl (record { all = HasRead-end world.input.left left last.left u.lines old new u.within u.consumes grows reads u.has_read; well = well; prompted = prompted; same = refl }))
 
   -- a line was the last
-  pub RunsKtutil-in_line : (talk' : Talk F) (asked : ErrorWatch) → Prompts prompts (prompt_of talk.state.awaiting) talk.err asked → ReadsLine true old new last.left → last.failed ≡ world.input.failed → Stops trait now (number + 1) new.line (record talk { err = asked }) talk'
+  pub RunsKtutil-in_line : (talk' : Talk F) (asked : ErrorWatch) → Prompts prompts (prompt_of talk.state.awaiting) talk.err asked → ReadsLine true old new last.left → last.failed ≡ world.input.failed → HandlesNext trait now (number + 1) new.line (record talk { err = asked }) talk' false
       → RunsKtutil trait order prompts now world (record { files = talk'.files; input = last; out = talk'.out; err = talk'.err }) talk'.status
   RunsKtutil-in_line talk' asked prompted reads well stops =
       let has_read = HasRead-line world.input.left left last.left u.lines old new u.within u.consumes grows reads within u.has_read in
@@ -113,7 +113,7 @@ module _ {F R W E : Type 0} (trait : Ghosts F) (prompts : Bool) (now : ℕ) (ord
         well = well;
         asked = asked;
         prompted = prompted;
-        stops = subst (λ (n : ℕ). Stops trait now (n + 1) new.line (record talk { err = asked }) talk') u.counted stops;
+        stops = subst (λ (n : ℕ). HandlesNext trait now (n + 1) new.line (record talk { err = asked }) talk' false) u.counted stops;
       })))
 
   -- the input was not read further

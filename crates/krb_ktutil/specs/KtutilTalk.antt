@@ -90,16 +90,10 @@ module _ {F : Type 0} (trait : Ghosts F) (now : ℕ) where
     -- over honest files
     pub honest : trait.is_honest old.files → Keeps trait (follow (trait.file old.files) (plan_of old.state now number line)).effect old.files new.files finishes.left
 
-  -- a line was run, and the next one may come
-  pub record Continues (number : ℕ) (line : List ℕ) (old new : Talk F) : Type 0 where
-    pub handles : HandlesLine number line old new
-    pub goes_on : IsTrue (goes_on handles.quits handles.end.ending)
-    pub well : IsFalse new.out.failed
-
-  -- a line was run, and none comes after it: it quits, or memory ran out, or the output failed
-  pub record Stops (number : ℕ) (line : List ℕ) (old new : Talk F) : Type 0 where
-    pub handles : HandlesLine number line old new
-    pub why : IsFalse (goes_on handles.quits handles.end.ending) ⊎ IsTrue new.out.failed
+  -- a line was run, and this is whether the next one may come: not if it quits, or memory ran out, or the output failed
+  abbrev pub HandlesNext : ℕ → List ℕ → Talk F → Talk F → Bool → Type 0
+  HandlesNext number line old new true = (handles : HandlesLine number line old new) × IsTrue (goes_on handles.quits handles.end.ending) × IsFalse new.out.failed
+  HandlesNext number line old new false = (handles : HandlesLine number line old new) × (IsFalse (goes_on handles.quits handles.end.ending) ⊎ IsTrue new.out.failed)
 
   module _ (prompts : Bool) where
     -- lines were run one after the other, each after its prompt, the first of them with that number
@@ -107,7 +101,7 @@ module _ {F : Type 0} (trait : Ghosts F) (now : ℕ) where
     TalksOver number [] old new = new ≡ old
     TalksOver number (line ∷ lines) old new =
         (asked : ErrorWatch) × (between : Talk F) × Prompts prompts (prompt_of old.state.awaiting) old.err asked
-        × Continues number line (record old { err = asked }) between × TalksOver (number + 1) lines between new
+        × HandlesNext number line (record old { err = asked }) between true × TalksOver (number + 1) lines between new
 
     module _ (input input' : Source) (lines : List (List ℕ)) (last end : Talk F) where
       -- the input has these lines and no more; a newline follows the last prompt
@@ -124,7 +118,7 @@ module _ {F : Type 0} (trait : Ghosts F) (now : ℕ) where
         pub well : input'.failed ≡ input.failed
         pub asked : ErrorWatch
         pub prompted : Prompts prompts (prompt_of last.state.awaiting) last.err asked
-        pub stops : Stops (length lines + 1) line (record last { err = asked }) end
+        pub stops : HandlesNext (length lines + 1) line (record last { err = asked }) end false
 
       -- no more of the input was read after the prompt, and the reason was reported; what was cut off is not a line
       pub record EndsUnread : Type 0 where
@@ -261,10 +255,3 @@ pub record RunsKtutil {F R W E : Type 0} (trait : Ghosts F) (order : Order) (pro
   pub ends : EndsTalk trait now prompts old.input new.input lines last (record { files = new.files; state = state; out = new.out; err = new.err; status = status })
   pub taken : ConsumesAtMost old.input.left new.input.left (most_bytes + 1)
   pub honest : trait.is_honest old.files → TalksHonestly trait prompts now old.input.left (first_talk order old.files old.out old.err) (record { files = new.files; state = state; out = new.out; err = new.err; status = status })
-
--- ---- for private contracts
-
--- a line was run, and this is whether the next one may come
-abbrev pub HandlesNext : {F : Type 0} → Ghosts F → ℕ → ℕ → List ℕ → Talk F → Talk F → Bool → Type 0
-HandlesNext trait now number line old new true = Continues trait now number line old new
-HandlesNext trait now number line old new false = Stops trait now number line old new
