@@ -1,6 +1,7 @@
 -- Lines that were read from an input, which is split at newlines.
-use Rattle.krb_ktutil.proofs.Cited.{onto_first, ◌≡◌, ℕ, ◌+◌, ◌-◌, ◌<◌, ◌≤◌, List, [], ◌∷◌, ◌++◌, length, take, drop, Option, Some, None, refl, sym, ap, subst, ◌∙◌, arith, length-append, append_assoc, append-nil, take-add, slice_range, lines_of, HasNone, Grows, drop-drop, Keeps, take-append-drop, take-take, IsFirst, inl, inr, IfSome, length-drop, nat_lt, IsAtEnd, take_all, take-append-le, length-take-le, drop_all, lt-ltb, InputParts, ReadsLine, AreFirst, nil_from_length, common_steps, Consumes-trans, take-append_seam, true, false, Consumes, with_newlines, flat_map-append, IsSpent, IsWithin, HasNoMore, CutsOff, most_bytes, ◌⊎◌, false≢true, nat_tests}
+use Rattle.krb_ktutil.proofs.Cited.{is_newline, false, onto_first, ◌≡◌, ℕ, ◌+◌, ◌-◌, ◌<◌, ◌≤◌, List, [], ◌∷◌, ◌++◌, length, take, drop, Option, Some, None, refl, sym, ap, subst, ◌∙◌, arith, length-append, append_assoc, append-nil, take-add, slice_range, lines_of, HasNone, Grows, drop-drop, Keeps, take-append-drop, take-take, IsFirst, inl, inr, IfSome, length-drop, nat_lt, IsAtEnd, take_all, take-append-le, drop_all, lt-ltb, InputParts, ReadsLine, AreFirst, nil_from_length, common_steps, Consumes-trans, true, Consumes, with_newlines, flat_map-append, IsSpent, IsWithin, HasNoMore, CutsOff, most_bytes, ◌⊎◌, false≢true, nat_tests}
 use Rattle.std.specs.List.{AllByRecursion}
+use Rattle.krb_wire.proofs.Lists.{all_front, all_join}
 use Rattle.std.proofs.lemmas.List.Folds.{drop_split}
 
 -- ---- bytes that grow
@@ -21,29 +22,18 @@ Grows-trans a b c l m n p q = record {
 
 -- ---- parts without a newline
 
--- the bytes after a later place
-drop_to : (xs : List ℕ) (a b : ℕ) → a ≤ b → drop (b - a) (drop a xs) ≡ drop b xs
-drop_to xs a b p = drop-drop (b - a) a xs ∙ ap (λ (n : ℕ). drop n xs) {x = a + (b - a)} {y = b} (omega (arith, p))
-
 -- two adjacent ranges
 parts_touch : (xs : List ℕ) (a b c : ℕ) → a ≤ b → b ≤ c → slice_range xs a c ≡ slice_range xs a b ++ slice_range xs b c
 parts_touch xs a b c p q =
-    ap (λ (n : ℕ). take n (drop a xs)) {x = c - a} {y = (b - a) + (c - b)} (omega (arith, p, q))
-    ∙ take-add (b - a) (c - b) (drop a xs)
-    ∙ ap (λ (ys : List ℕ). slice_range xs a b ++ take (c - b) ys) (drop_to xs a b p)
+    ap (λ (n : ℕ). take n (drop a xs)) {x = c - a} {y = (b - a) + (c - b)} (omega (arith, p, q)) ∙ take-add (b - a) (c - b) (drop a xs)
+    ∙ ap (λ (ys : List ℕ). slice_range xs a b ++ take (c - b) ys) (drop-drop (b - a) a xs ∙ ap (λ (n : ℕ). drop n xs) {x = a + (b - a)} {y = b} (omega (arith, p)))
 
--- no newline in two lists, none in both together
-HasNone-append : (xs ys : List ℕ) → HasNone xs → HasNone ys → HasNone (xs ++ ys)
-HasNone-append [] ys h k = k
-HasNone-append (x ∷ xs) ys h k = (h.0, HasNone-append xs ys h.1 k)
+abbrev IsOther : ℕ → Type 0
+IsOther b = is_newline b ≡ false
 
 -- no newline in a prefix, if there is none at all
-HasNone-left : (xs ys : List ℕ) → HasNone (xs ++ ys) → HasNone xs
-HasNone-left [] ys h = tt
-HasNone-left (x ∷ xs) ys h = (h.0, HasNone-left xs ys h.1)
-
 HasNone-take : (n : ℕ) (xs : List ℕ) → HasNone xs → HasNone (take n xs)
-HasNone-take n xs h = HasNone-left (take n xs) (drop n xs) (subst HasNone (sym (take-append-drop n xs)) h)
+HasNone-take n xs h = all_front IsOther (take n xs) (drop n xs) (subst HasNone (sym (take-append-drop n xs)) h)
 
 -- no newline up to a place, if there is none up to a later one
 pub HasNone-sooner : (xs : List ℕ) (a end most : ℕ) → most ≤ end → HasNone (slice_range xs a end) → HasNone (slice_range xs a most)
@@ -56,14 +46,14 @@ IsFirst-earlier xs a b c le none first =
     let parts = parts_touch xs a b c le ahead in
     record {
       ahead = omega (arith, le, ahead);
-      before = rw parts (HasNone-append (slice_range xs a b) (slice_range xs b c) none first.before);
+      before = rw parts (all_join IsOther (slice_range xs a b) (slice_range xs b c) none first.before);
       rest = first.rest;
     }
 
 -- no newline from an earlier place on, if there is none between and none after
 pub HasNone-earlier : (xs : List ℕ) (a b : ℕ) → a ≤ b → HasNone (slice_range xs a b) → HasNone (drop b xs) → HasNone (drop a xs)
 HasNone-earlier xs a b le none rest =
-    rw (drop_split xs a b le) (HasNone-append (slice_range xs a b) (drop b xs) none rest)
+    rw (drop_split xs a b le) (all_join IsOther (slice_range xs a b) (drop b xs) none rest)
 
 -- nor up to another place
 pub none_up_to : (xs : List ℕ) (a b most : ℕ) → a ≤ b → HasNone (slice_range xs a b) → HasNone (drop b xs) → HasNone (slice_range xs a most)
@@ -74,13 +64,6 @@ pub HasNone-grown : (old new given : List ℕ) (a : ℕ) → new ≡ old ++ give
 HasNone-grown old new given a e le none =
     let same : slice_range (old ++ given) a (length old) ≡ drop a old = grind (arith, common_steps, le) in
     rw (e, same) none
-
--- a newline is within the bytes
-pub first-within : (xs : List ℕ) (a b : ℕ) → IsFirst xs a b → b < length xs
-first-within xs a b first =
-    let rest = first.rest in
-    let some : 0 < length (drop b xs) = rw rest omega arith in
-    grind (arith, common_steps, some)
 
 -- ---- lines
 
@@ -106,25 +89,12 @@ pub ruleset newlines = (IsFirst-earlier, HasNone-earlier, Grows-none, Grows-tran
 
 -- ---- a line that was read
 
--- the bytes from a place on, whose first newline is at another
-first_parts : (xs : List ℕ) (a b : ℕ) → IsFirst xs a b → drop a xs ≡ slice_range xs a b ++ 10 ∷ drop (b + 1) xs
-first_parts xs a b first = drop_split xs a b first.ahead ∙ ap (λ (ys : List ℕ). slice_range xs a b ++ ys) first.rest
-
--- a text and one more byte
-take_more : (xs ys : List ℕ) (b n : ℕ) → n ≡ length xs + 1 → take n (xs ++ b ∷ ys) ≡ xs ++ b ∷ []
-take_more xs ys b n is =
-    let len : n ≡ length (xs ++ b ∷ []) = omega (arith, is, length-append xs (b ∷ [])) in
-    ap (take n) (sym (append_assoc xs (b ∷ []) ys)) ∙ ap (λ (m : ℕ). take m ((xs ++ b ∷ []) ++ ys)) len ∙ take-append_seam (xs ++ b ∷ []) ys
-
 -- the bytes up to the first newline from a place on
 up_to_newline : (xs : List ℕ) (a end : ℕ) → IsFirst xs a end → take (end + 1) xs ≡ take a xs ++ (slice_range xs a end ++ 10 ∷ [])
 up_to_newline xs a end first =
-    let ahead = first.ahead in
-    let sum : end + 1 ≡ a + (end + 1 - a) = omega (arith, ahead) in
-    let long : end - a ≤ length (drop a xs) = omega (arith, ahead, first-within xs a end first, length-drop a xs) in
-    ap (λ (n : ℕ). take n xs) sum ∙ take-add a (end + 1 - a) xs
-    ∙ ap (λ (bs : List ℕ). take a xs ++ take (end + 1 - a) bs) (first_parts xs a end first)
-    ∙ ap (λ (bs : List ℕ). take a xs ++ bs) (take_more (slice_range xs a end) (drop (end + 1) xs) 10 (end + 1 - a) (omega (arith, ahead, length-take-le (end - a) (drop a xs) long)))
+    let sum : end ≡ a + (end - a) = (let ahead = first.ahead in omega (arith, ahead)) in
+    take-add end 1 xs ∙ ap (λ (bs : List ℕ). take end xs ++ take 1 bs) first.rest
+    ∙ ap (λ (bs : List ℕ). bs ++ 10 ∷ []) (ap (λ (n : ℕ). take n xs) sum ∙ take-add a (end - a) xs) ∙ append_assoc (take a xs) (slice_range xs a end) (10 ∷ [])
 
 -- a line was read up to a newline
 pub ReadsLine-first : (old new : InputParts) (left left' : Option (List ℕ)) (end : ℕ) → old.next ≤ length old.read → IsFirst new.read old.next end → Grows old.read new.read left left'
@@ -178,10 +148,6 @@ lines_begin (line ∷ lines) rest h =
 -- one more line with its newline
 newline_more : (lines : List (List ℕ)) (line : List ℕ) → with_newlines (lines ++ line ∷ []) ≡ with_newlines lines ++ (line ++ 10 ∷ [])
 newline_more lines line = flat_map-append (λ l. l ++ 10 ∷ []) lines (line ∷ []) ∙ ap (λ (bs : List ℕ). with_newlines lines ++ bs) (append-nil (line ++ 10 ∷ []))
-
-none_more : (lines : List (List ℕ)) (line : List ℕ) → AllByRecursion HasNone lines → HasNone line → AllByRecursion HasNone (lines ++ line ∷ [])
-none_more [] line h k = (k, tt)
-none_more (first ∷ lines) line h k = (h.0, none_more lines line h.1 k)
 
 -- what was read up to the next line is these lines, each with its newline
 pub record AreEnded (lines : List (List ℕ)) (input : InputParts) : Type 0 where
@@ -251,7 +217,7 @@ module _ (given left left' : Option (List ℕ)) (lines : List (List ℕ)) (old n
           | inl newline ↦ inl (record {
             within = newline.1.within;
             read = newline.1.read ∙ ap (λ (bs : List ℕ). bs ++ (new.line ++ 10 ∷ [])) before.read ∙ sym (newline_more lines new.line);
-            none = none_more lines new.line before.none reads.none;
+            none = all_join HasNone lines (new.line ∷ []) before.none (reads.none, tt);
           })
           | inr last ↦
               let some : 0 < length new.line = (let all = last.0.all in rw last.1 omega (arith, lt, all, length-drop old.next new.read)) in
