@@ -6,6 +6,7 @@ use Rattle.krb_keytab.specs.Changes.{put_result}
 use Rattle.krb_walk.specs.Rules.{PutGives}
 use Rattle.krb_walk.specs.declared.refusal.Refusal.{Refusal}
 use Rattle.krb_walk.specs.declared.refusal.Refusal.TheVariants.{Code as ByCode, NoMemory}
+use Rattle.krb_files.specs.Loading.{TurnsHold}
 use Rattle.krb_files.specs.declared.files.LoadFault.TheVariants as load
 use Rattle.krb_text.specs.declared.line_fault.LineRefusal.TheVariants as refusal
 use Rattle.krb_driver.specs.declared.error.RunError.TheVariants as error
@@ -72,6 +73,10 @@ module _ {F : Type 0} (trait : Ghosts F) where
   -- nothing is written under a name that begins with a type
   pub makes_typed : (s : KtutilState) (number : ℕ) (word : List ℕ) (files : F) (effect : Effect) (quits : Bool) → has_type word ≡ true → EndsAt (Ends (fails s word error.TypedName)) s s effect quits → MakesLine trait (command_plan s number (WriteFile word)) files files s s effect quits
   makes_typed s number word files effect quits typed ends = rw typed (makes_end (Ends (fails s word error.TypedName)) files s s effect quits ends)
+
+  -- and else the file is held
+  pub makes_held : (s : KtutilState) (number : ℕ) (word : List ℕ) (files between new : F) (effect : Effect) (quits : Bool) → has_type word ≡ false → TurnsHold trait (Some word) files between → MakesLine trait (writing_plan s number word) between new s s effect quits → MakesLine trait (command_plan s number (WriteFile word)) files new s s effect quits
+  makes_held s number word files between new effect quits typed turns makes = rw typed (record { answers = makes.answers; loads = inr (between, (turns, makes.loads)); came = makes.came; made = makes.made; is = makes.is })
 
   -- a load, and what was made by its result
   makes_loaded : (s new : KtutilState) (name : List ℕ) (then_ : Answer → Came) → then_ (Err load.Failed) ≡ fails s name error.FileNotRead → then_ (Err load.NoMemory) ≡ fails s name error.NoMemory
@@ -150,3 +155,5 @@ pub ruleset commands = (makes_end, tries_words)
 pub ruleset outcomes = (tried_line, tried_spent, tried_fault)
 
 pub ruleset lines = (makes_end, makes_by)
+
+pub ruleset writes = (makes_typed, makes_held)

@@ -4,9 +4,9 @@ use Rattle.std.proofs.Math.Bool.{and-false}
 use mathlib.Core.Path.{fun_ext}
 use Rattle.krb_files.specs.declared.aftermath.Aftermath.{Aftermath}
 use Rattle.krb_files.specs.declared.files.LoadFault.TheVariants as load
-use Rattle.krb_driver.specs.Commands.{Keeps, Settles, ShowsEnd, Displays, IsSpent, Saves, about, files_after, is_save, reported_aftermath, settled}
+use Rattle.krb_driver.specs.Commands.{Settles, ShowsEnd, Displays, IsSpent, Saves, about, files_after, is_save, reported_aftermath, settled}
 use Rattle.krb_ktutil.proofs.InputLemmas.{AreLines, are_first, lines_after}
-use Rattle.krb_ktutil.proofs.KtutilDue.{Came-due, line_lasts, makes_due, makes_lasts}
+use Rattle.krb_ktutil.proofs.KtutilDue.{line_lasts, makes_due, makes_lasts}
 
 -- ---- what is left
 
@@ -83,18 +83,16 @@ module _ {F : Type 0} (trait : Ghosts F) (prompts : Bool) (now number : ℕ) (li
       (same-trans (trait.file old.files) (trait.file f.done) (trait.file new.files) (subst (λ (x : F). SameFiles (trait.file old.files) (trait.file x)) (sym s.0) same) f.released.same, (spent.0, s.1))
 
   -- the line did what is due; or a call failed, counted; or memory ran out
-  comes_by : trait.is_honest old.files → Came-due trait old.state new.state old.files handles.made handles.effect handles.quits (plan_of old.state now number line) handles.makes → Keeps trait due.effect old.files new.files handles.finishes.left
-      → LineDue ⊎ (CountsFailure (trait.failure_count old.files) (trait.failure_count new.files) ⊎ LineSpent)
-  comes_by h (inl is) (inl keeps) = inl (is, keeps)
-  comes_by h (inl is) (inr (inl failed)) = inr (inl failed.0)
-  comes_by h (inl is) (inr (inr spent)) = inr (inr spent)
-  comes_by h (inr (inl failed)) keeps =
-      let le = (finishes-lasts trait (line_faults old.state) (Some number) handles.effect handles.effect old.files handles.made new.files old.out new.out asked new.err handles.end handles.finishes).1 in
-      inr (inl (count-more (trait.failure_count old.files) (trait.failure_count handles.made) (trait.failure_count new.files) le failed.0))
-  comes_by h (inr (inr spent)) keeps = inr (inr (spent_line h spent))
-
   line_comes : trait.is_honest old.files → LineDue ⊎ (CountsFailure (trait.failure_count old.files) (trait.failure_count new.files) ⊎ LineSpent)
-  line_comes h = comes_by h (makes_due trait old.state new.state old.files handles.made handles.effect handles.quits (plan_of old.state now number line) handles.makes h) (handles.honest h)
+  line_comes h = elim (makes_due trait old.state new.state old.files handles.made handles.effect handles.quits (plan_of old.state now number line) handles.makes h) [
+    | inl is ↦ elim (handles.honest h) [ inl keeps ↦ inl (is, keeps) | inr other ↦ elim other [ inl failed ↦ inr (inl failed.0) | inr spent ↦ inr (inr spent) ] ]
+    | inr other ↦ elim other [
+      | inl failed ↦
+          let le = (finishes-lasts trait (line_faults old.state) (Some number) handles.effect handles.effect old.files handles.made new.files old.out new.out asked new.err handles.end handles.finishes).1 in
+          inr (inl (count-more (trait.failure_count old.files) (trait.failure_count handles.made) (trait.failure_count new.files) le failed.0))
+      | inr spent ↦ inr (inr (spent_line h spent))
+    ]
+  ]
 
   -- nothing that a save left behind was reported
   left_nothing : trait.is_honest old.files → handles.finishes.details.aftermath ≡ None

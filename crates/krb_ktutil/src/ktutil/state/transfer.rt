@@ -1,10 +1,9 @@
 //! Reads entries from a file into the list, and adds the list to a file.
 
-ghost use Rattle.std.specs.Prelude.{◌≡◌, ℕ, true, Ok, IfOk, IfErr};
+ghost use Rattle.std.specs.Prelude.{◌≡◌, ℕ, Ok, IfOk, IfErr};
 ghost use Rattle.krb_driver.specs.FileNames.{has_type};
 ghost use Rattle.krb_ktutil.specs.KtutilCommand.{ReadFile, WriteFile};
 ghost use Rattle.krb_ktutil.specs.KtutilPlan.{KtutilState, with_entries, writing_plan, saved_as, saved_verdict, written_to, command_plan, Comes, MakesLine, line_effect, none_added, with_added, RefusesAdded};
-ghost use Rattle.krb_files.specs.Plan.{Holds};
 ghost use Rattle.krb_keytab.specs.Store.{entries};
 
 use super::Ktutil;
@@ -139,17 +138,8 @@ impl<A: Allocator + Copy> Ktutil<A> {
         }
     }
 
-    // Adds the list to a file, and holds it from then on.
-    fn write_file<'l, F: Files>(&self, files: &mut F, number: u64, name: &'l str) -> Line<'l, A>
-        ensures { MakesLine F.Files (Holds true name.now (writing_plan self.now number name.now))
-            files.old files.new self.now self.now (line_effect result) result.quits }
-    {
-        hold(files, name);
-        self.write_held(files, number, name)
-    }
-
-    // Adds the list to the file that a word names, unless the word begins with a type.
-    #[tactic(auto, using(crate::proofs::KtutilHandles::makes_typed))]
+    // Adds the list to the file that a word names, and holds it from then on, unless the word begins with a type.
+    #[tactic(auto, using(crate::proofs::KtutilHandles::writes))]
     pub(crate) fn write<'l, F: Files>(
         &self,
         files: &mut F,
@@ -162,7 +152,8 @@ impl<A: Allocator + Copy> Ktutil<A> {
         if has_type(word) {
             return Line::fails(word, RunError::TypedName);
         }
-        self.write_file(files, number, word)
+        hold(files, word);
+        self.write_held(files, number, word)
     }
 }
 
