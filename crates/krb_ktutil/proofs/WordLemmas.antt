@@ -29,30 +29,18 @@ some_is_word (b ∷ bs) (suc n) p q = refl
 words_blank : (b : ℕ) (bs : List ℕ) → is_blank b ≡ true → words (b ∷ bs) ≡ words bs
 words_blank b bs e = rw e refl
 
-words-unindented-cons : (t : Bool) (b : ℕ) (bs : List ℕ) → is_blank b ≡ t → words (unindented bs) ≡ words bs → words (cond t (unindented bs) (b ∷ bs)) ≡ words (b ∷ bs)
-words-unindented-cons true b bs e rest = rest ∙ sym (words_blank b bs e)
-words-unindented-cons false b bs e rest = refl
+-- a text is a line without its leading blanks: it has the same words, and the first of them is at its front
+record Unindents (line text : List ℕ) : Type 0 where
+  same : words text ≡ words line
+  size : 0 < length text → 0 < word_size text
 
-words-unindented : (line : List ℕ) → words (unindented line) ≡ words line
-words-unindented [] = refl
-words-unindented (b ∷ bs) = words-unindented-cons (is_blank b) b bs refl (words-unindented bs)
+unindents-cons : (t : Bool) (b : ℕ) (bs : List ℕ) → is_blank b ≡ t → Unindents bs (unindented bs) → Unindents (b ∷ bs) (cond t (unindented bs) (b ∷ bs))
+unindents-cons true b bs e rest = record { same = rest.same ∙ sym (words_blank b bs e); size = rest.size }
+unindents-cons false b bs e rest = record { same = refl; size = λ some. rw e (omega arith) }
 
--- a text does not begin with a blank
-abbrev BeginsPlain : List ℕ → Type 0
-BeginsPlain [] = Unit {0}
-BeginsPlain (b ∷ bs) = is_blank b ≡ false
-
-unindented_begins-cons : (t : Bool) (b : ℕ) (bs : List ℕ) → is_blank b ≡ t → BeginsPlain (unindented bs) → BeginsPlain (cond t (unindented bs) (b ∷ bs))
-unindented_begins-cons true b bs e rest = rest
-unindented_begins-cons false b bs e rest = e
-
-unindented_begins : (line : List ℕ) → BeginsPlain (unindented line)
-unindented_begins [] = tt
-unindented_begins (b ∷ bs) = unindented_begins-cons (is_blank b) b bs refl (unindented_begins bs)
-
-plain_has_size : (text : List ℕ) → BeginsPlain text → 0 < length text → 0 < word_size text
-plain_has_size [] plain p = absurd (omega arith)
-plain_has_size (b ∷ bs) plain p = rw plain (omega arith)
+unindents : (line : List ℕ) → Unindents line (unindented line)
+unindents [] = record { same = refl; size = λ some. absurd (omega (arith, some)) }
+unindents (b ∷ bs) = unindents-cons (is_blank b) b bs refl (unindents bs)
 
 -- the first n bytes of a text are the first word of a line
 pub record FirstWord (line text : List ℕ) (n : ℕ) : Type 0 where
@@ -60,26 +48,22 @@ pub record FirstWord (line text : List ℕ) (n : ℕ) : Type 0 where
   pub begun : 0 < n
   pub within : n ≤ length text
 
-first_word-of : (line text : List ℕ) → words text ≡ words line → BeginsPlain text → 0 < length text → FirstWord line text (word_size text)
-first_word-of line text same plain some =
-    let n = word_size text in
-    let part = first_part text false in
-    let begun = plain_has_size text plain some in
+pub first_word : (line text : List ℕ) (n : ℕ) → text ≡ unindented line → n ≡ word_size text → 0 < length text → FirstWord line text n
+first_word line text n is size some =
+    let front = subst (Unindents line) (sym is) (unindents line) in
+    let part = subst (FirstPart text false) (sym size) (first_part text false) in
+    let begun : 0 < n = rw size (front.size some) in
     let here : filter is_word (take n text ∷ drop 1 (parts_from (drop n text) false)) ≡ take n text ∷ filter is_word (drop 1 (parts_from (drop n text) false)) =
     rw (some_is_word text n begun some) refl in
     record {
-      cut = sym same ∙ ap (filter is_word) part.parts_are ∙ here ∙ ap (λ (others : List (List ℕ)). take n text ∷ others) (sym (ap (filter is_word) part.ends));
+      cut = sym front.same ∙ ap (filter is_word) part.parts_are ∙ here ∙ ap (λ (others : List (List ℕ)). take n text ∷ others) (sym (ap (filter is_word) part.ends));
       begun = begun;
       within = part.within;
     }
 
-pub first_word : (line text : List ℕ) (n : ℕ) → text ≡ unindented line → n ≡ word_size text → 0 < length text → FirstWord line text n
-first_word line text n same size some =
-    rw size (first_word-of line text (ap words same ∙ words-unindented line) (subst BeginsPlain (sym same) (unindented_begins line)) some)
-
 -- a line of blanks has no words
 pub no_words : (line text : List ℕ) → text ≡ unindented line → length text ≡ 0 → words line ≡ []
-no_words line text same none = sym (words-unindented line) ∙ ap words (sym same ∙ nil_from_length text none)
+no_words line text same none = sym (unindents line).same ∙ ap words (sym same ∙ nil_from_length text none)
 
 -- one more byte before the first blank that is not quoted
 size_from-cons : (b : ℕ) (bs : List ℕ) (quoted : Bool) → (not quoted && is_blank b) ≡ false → size_from (b ∷ bs) quoted ≡ suc (size_from bs (not quoted && b == 92))
