@@ -18,7 +18,7 @@ WritesOn-put old new text (Err e) well all prefix failed = λ start before write
 
 -- no prompt was written yet
 Prompts-none : (prompts : Bool) (err : ErrorWatch) → Prompts prompts [] err err
-Prompts-none true err = record { writes = Writes-nothing err.to; still = refl }
+Prompts-none true err = (Writes-nothing err.to, refl)
 Prompts-none false err = refl
 
 -- a prompt was written

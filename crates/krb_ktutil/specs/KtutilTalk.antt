@@ -32,14 +32,9 @@ prompt_of Password = codes "password (not used): "
 abbrev pub last_prompt : Awaiting Awaited → List ℕ
 last_prompt awaiting = prompt_of awaiting ++ 10 ∷ []
 
--- a text was written to the error output, whole unless that has failed
-pub record WritesText (text : List ℕ) (old new : ErrorWatch) : Type 0 where
-  pub writes : Writes old.to new.to text
-  pub still : new.explains ≡ old.explains
-
--- if there are prompts, that one was written; without them nothing was
+-- if there are prompts, that one was written to the error output, whole unless that has failed; without them nothing was
 abbrev pub Prompts : Bool → List ℕ → ErrorWatch → ErrorWatch → Type 0
-Prompts true prompt old new = WritesText prompt old new
+Prompts true prompt old new = Writes old.to new.to prompt × (new.explains ≡ old.explains)
 Prompts false prompt old new = new ≡ old
 
 -- ---- for private contracts
