@@ -29,15 +29,10 @@ entries_placed f (r ∷ rs) = entries_first r.place (entry_at f r.bytes) _ _ (en
 pub all_entries : (k : KeytabState) → entries_of (placed_entries k) ≡ entries k
 all_entries k = entries_placed k.format (records (store_of k))
 
--- after a refusal no entry is added
-with_added-err : (es : List EntryParts) (refused : Code) → with_added es (Err refused) ≡ Err refused
-with_added-err [] refused = refl
-with_added-err (e ∷ es) refused = refl
-
 -- the refusal of the first entry is that of all entries
 pub refuses_added : (e : EntryParts) (es : List EntryParts) (x : Added) (k' : KeytabState) (r : Refusal) (all : Result Added Code) → PutGives (put_result x.keytab e) x.keytab (Err r) k' → with_added (e ∷ es) (Ok x) ≡ all → RefusesAdded all r
 refuses_added e es x k' (ByCode refused) all gives is =
-    sym is ∙ ap (λ (put : Result (ℕ × KeytabState) Code). with_added es (result_map (more_added x) put)) gives.0 ∙ with_added-err es refused
+    sym is ∙ ap (λ (put : Result (ℕ × KeytabState) Code). with_added es (result_map (more_added x) put)) gives.0
 refuses_added e es x k' NoMemory all gives is = tt
 
 -- ---- a line was made by its plan, from its steps

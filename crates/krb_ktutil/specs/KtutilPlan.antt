@@ -116,9 +116,9 @@ more_added x given = record { keytab = given.1; places = x.places ++ given.0 ∷
 
 -- a keytab with these entries added one after the other, or the first refusal
 abbrev pub with_added : List EntryParts → Result Added Code → Result Added Code
-with_added [] x = x
+with_added es (Err refused) = Err refused
+with_added [] (Ok x) = Ok x
 with_added (e ∷ es) (Ok x) = with_added es (result_map (more_added x) (put_result x.keytab e))
-with_added (e ∷ es) (Err refused) = Err refused
 
 -- the keytab is saved under the name, or the line ends with the refusal
 abbrev pub saved_as : KtutilState → ℕ → List ℕ → Result Added Code → Came
