@@ -1,5 +1,5 @@
 -- What a line of ktutil comes to: what it leaves, and that it is what is due over honest files.
-use Rattle.krb_ktutil.proofs.Cited.{◌≡◌, ◌⊎◌, inl, inr, ◌∙◌, ℕ, ◌≤◌, Bool, true, false, List, [], ◌∷◌, length, refl, sym, ap, subst, arith, Option, Result, Ok, Err, Code, KeytabState, Ghosts, Watch, Ends, LineFault, Effect, Fails, ErrorWatch, Awaited, words, Awaiting, Nothing, KtutilState, Came, Added, fails, line_faults, none_added, with_added, plan_of, EndsAt, IsCame, is_some, store_of, Answer, Holds, Loads, by, follow, bare_name, has_type, is_other_type, keytab_of, keytab_or_new, is_spent, no_keytab_error, Command, Skip, ListSlots, ReadFile, WriteFile, AwaitKey, DeleteSlot, ClearList, Quit, asks_for_password, command_of, Key, Password, LinePlan, after_fault, with_entries, saved_as, written_to, key_line, with_key, command_plan, plan_by, words_plan, MakesLine, Spares, cond_both, fault_of, CountsFailure, Lasts, comes, loaded-lasts, NoKeytab, Keytab, finishes-keeps, finishes-lasts, asks_for_help, fault_error}
+use Rattle.krb_ktutil.proofs.Cited.{◌≡◌, ◌⊎◌, inl, inr, ◌∙◌, ℕ, ◌≤◌, Bool, true, false, List, [], ◌∷◌, length, refl, sym, ap, subst, arith, Option, Result, Ok, Err, Code, KeytabState, Ghosts, Watch, Ends, LineFault, Effect, Fails, ErrorWatch, Awaited, words, Awaiting, Nothing, KtutilState, Came, Added, fails, line_faults, none_added, with_added, plan_of, EndsAt, IsCame, is_some, store_of, Answer, Holds, Loads, by, follow, bare_name, has_type, is_other_type, keytab_of, keytab_or_new, is_spent, no_keytab_error, Command, Skip, ListSlots, ReadFile, WriteFile, AwaitKey, DeleteSlot, ClearList, Quit, asks_for_password, command_of, Key, Password, LinePlan, with_entries, saved_as, written_to, key_line, with_key, command_plan, plan_by, words_plan, MakesLine, Spares, cond_both, fault_of, CountsFailure, Lasts, comes, loaded-lasts, NoKeytab, Keytab, finishes-keeps, finishes-lasts, asks_for_help, fault_error}
 use Rattle.krb_files.specs.declared.files.LoadFault.TheVariants as load
 use Rattle.krb_text.specs.declared.line_fault.LineFault.TheVariants as fault
 use Rattle.krb_driver.specs.declared.command.RunEnd.{RunEnd}
@@ -62,13 +62,9 @@ module _ (s : KtutilState) where
   command-careful number ClearList = refl
   command-careful number Quit = refl
 
-  after-entries : (asks : Bool) → (after_fault asks s).entries ≡ s.entries
-  after-entries true = refl
-  after-entries false = refl
-
   words-careful : (number : ℕ) (line : List (List ℕ)) (given : Result Command LineFault) → AllCareful s (words_plan s number line given)
   words-careful number line (Ok command) = command-careful number command
-  words-careful number line (Err fault) = (after-entries (asks_for_password line), not-spent (fault_error number line fault) (fault-other number line fault))
+  words-careful number line (Err fault) = (refl, not-spent (fault_error number line fault) (fault-other number line fault))
 
   key-careful : (number : ℕ) (line : List (List ℕ)) (x : Awaited) (now : ℕ) (key : Result (List ℕ) LineFault) → Careful s (with_key s number line x now key)
   key-careful number line x now (Ok key) = refl

@@ -157,8 +157,7 @@ writing_plan s number name = Loads name (λ answer. Ends (written_to s number na
 
 -- the state after a faulty line: a password is awaited if the line asks for one
 abbrev pub after_fault : Bool → KtutilState → KtutilState
-after_fault true s = record s { awaiting = Password }
-after_fault false s = s
+after_fault asks s = record s { awaiting = if asks then Password else s.awaiting }
 
 -- the plan of a command on a line of that number: only a file is read, named with its type or without it, and nothing is written under a name that begins with a type
 abbrev pub command_plan : KtutilState → ℕ → Command → LinePlan
