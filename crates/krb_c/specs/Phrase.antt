@@ -7,7 +7,7 @@ use Rattle.krb_walk.specs.Phrases.{code_phrase}
 use Rattle.krb_ccache.specs.declared.open.CcOpenFault.TheVariants as opening
 use Rattle.krb_ccache.specs.Open.{open_fault_phrase}
 
--- the phrase of a status, if it has one: that of the code or the fault that it stands for, or its own; keytabs and caches differ in that of a bad version
+-- the phrase of a status, if it has one: that of its code or its fault, or its own; keytabs and caches differ in that of a bad version
 abbrev pub phrase_of : ℕ → Option (List ℕ)
 phrase_of n =
     if n == 0 then Some (codes "done") else if n == 1 then Some (name_fault_phrase fault.NoMemory)
