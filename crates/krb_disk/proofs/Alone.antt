@@ -9,7 +9,7 @@ use Rattle.krb_disk.specs.declared.stage.PlaceStage.TheVariants as place
 use Rattle.krb_disk.specs.declared.stage.Stage.{Stage}
 use Rattle.krb_disk.specs.declared.stage.Stage.TheVariants.{Made, Locked, Agreed, Held, Written, Permitted, Synced, Quiet, Ours, Same, Lost}
 use Rattle.krb_disk.specs.Content.{Content, IsPatch}
-use Rattle.krb_disk.specs.InPlace.{PlaceSave, PlaceCall, PlaceMoment, Compare, Do, Watch, Pass, Overwrite, Shorten, Finish, Confirm, SavesInPlace, Turns, Makes, Works, since, clears}
+use Rattle.krb_disk.specs.InPlace.{PlaceSave, PlaceCall, PlaceMoment, Compare, Do, Watch, Pass, Overwrite, Shorten, Sync, Confirm, SavesInPlace, Turns, Makes, Works, since, clears}
 use Rattle.krb_disk.specs.Disk as disk
 use Rattle.krb_disk.specs.NewFile.{new_path}
 use Rattle.krb_disk.specs.Stages.{private_mode}
@@ -52,9 +52,9 @@ saves_in_place =
     let passes = works Pass same ready place.Same (refl, refl, refl, refl) (λ i. refl) refl refl refl in
     let writes = works Overwrite ready written place.Mixed (refl, refl, refl) (λ i. record { within = λ past before. refl; front = λ before. absurd (omega (arith, before)); back = past_both i }) refl refl refl in
     let cuts = works Shorten written cut place.Torn (refl, refl, refl) (λ i. refl) refl refl refl in
-    let finishes = works Finish cut finished place.Torn (refl, refl, refl) (λ i. refl) refl refl refl in
+    let finishes = works Sync cut finished place.Torn (refl, refl) (λ i. refl) refl refl refl in
     let confirms = works Confirm finished saved place.Finished (refl, refl, refl) (λ i. refl) refl refl refl in
-    (byte, Do Confirm ∷ (Do Finish ∷ (Do Shorten ∷ (Do Overwrite ∷ (Do Pass ∷ (Compare ∷ (Do Watch ∷ [])))))), saved, patch, omega arith, tt, (finished, ((cut, ((written, ((ready, ((same, ((quiet, ((first, ((refl, refl), watches)), record { due = refl; has = λ i. refl; synced = refl; now = refl })), passes)), writes)), cuts)), finishes)), confirms)), refl, refl)
+    (byte, Do Confirm ∷ (Do Sync ∷ (Do Shorten ∷ (Do Overwrite ∷ (Do Pass ∷ (Compare ∷ (Do Watch ∷ [])))))), saved, patch, omega arith, tt, (finished, ((cut, ((written, ((ready, ((same, ((quiet, ((first, ((refl, refl), watches)), record { due = refl; has = λ i. refl; synced = refl; now = refl })), passes)), writes)), cuts)), finishes)), confirms)), refl, refl)
 
 -- ---- a new file
 

@@ -4,4 +4,3 @@ pub mod Parts
 pub mod Pieces
 pub mod PlaceMoments
 pub mod Within
-pub mod ForAnswers

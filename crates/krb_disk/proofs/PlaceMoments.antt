@@ -4,7 +4,7 @@ use Rattle.std.proofs.lemmas.Option.{slice_get_past}
 use Rattle.krb_disk.specs.declared.stage.PlaceStage.{PlaceStage}
 use Rattle.krb_disk.specs.declared.stage.PlaceStage.TheVariants.{Untouched, Quiet, Same, Extended, Lengthened, Unlocked, Ready, Overwritten, Cut, Finished, Saved, Whole, Trimmed, Back, Left, Mixed, Torn, Refilled, Lacking, Cleared}
 use Rattle.krb_disk.specs.Content.{Content, IsPatch}
-use Rattle.krb_disk.specs.InPlace.{PlaceSave, PlaceCall, Watch, Sync, Rewatch, Recompare, Finish, Restore, Event, Compare, Do, Fail, Intrude, PlaceMoment, shrinks, Turns, Makes, since, still_left, clears, Does, Leads, OneHas, IsLeft, HasOld, HasEnd, IsSafe}
+use Rattle.krb_disk.specs.InPlace.{PlaceSave, PlaceCall, Watch, Sync, Rewatch, Recompare, Restore, Event, Compare, Do, Fail, Intrude, PlaceMoment, shrinks, Turns, Makes, since, still_left, clears, Does, Leads, OneHas, IsLeft, HasOld, HasEnd, IsSafe}
 
 -- what the patch of a save is
 abbrev Fits : PlaceSave → Type 0
@@ -97,7 +97,6 @@ Holds save m = m.alone ≡ true → (i : ℕ) → ((x : Option ℕ) → OneHas (
 past : (save : PlaceSave) (cleared : Bool) (call : PlaceCall) (s t u : PlaceStage) (b : Content) (cs : List Content) (i : ℕ) (x : Option ℕ) → Fits save
     → (OneHas (b ∷ cs) i x → Was save cleared s i x) → Turns save call s t u → OneHas (since call b cs) i x → Was save (clears call cleared) t i x
 past save cleared Sync s t u b cs i x fits was turns has = absurd has
-past save cleared Finish s t u b cs i x fits was turns has = absurd has
 past save cleared Watch s t u b cs i x fits was turns has = let is = was (inr has) in grind (arith, slice_get_past)
 past save cleared Rewatch s t u b cs i x fits was turns has = let is = was (inr has) in grind (arith, slice_get_past)
 past save cleared Recompare s t u b cs i x fits was turns has = let is = was (inr has) in grind (arith, slice_get_past)

@@ -22,7 +22,6 @@ pub data PlaceCall : Type 0 where
   Recompare : PlaceCall
   Overwrite : PlaceCall
   Shorten : PlaceCall
-  Finish : PlaceCall
   Settle : PlaceCall
   Confirm : PlaceCall
   Restore : PlaceCall
@@ -58,13 +57,13 @@ Turns save Watch s t u = (s ≡ Untouched) × (t ≡ Quiet) × (u ≡ Untouched)
 Turns save Pass s t u = (s ≡ Same) × (t ≡ Ready) × (u ≡ Same) × (grows save ≡ false)
 Turns save Extend s t u = (s ≡ Same) × (t ≡ Extended) × (u ≡ Whole)
 Turns save Sync Extended t u = (t ≡ Lengthened) × (u ≡ Whole)
+Turns save Sync Cut t u = (t ≡ Finished) × (u ≡ Torn)
 Turns save Sync Refilled t u = (t ≡ Whole) × (u ≡ Lost)
 Turns save Sync Trimmed t u = (t ≡ Back) × (u ≡ Left)
 Turns save Rewatch s t u = (s ≡ Lengthened) × (t ≡ Unlocked) × ((u ≡ Whole) ⊎ (u ≡ Lengthened))
 Turns save Recompare s t u = (s ≡ Unlocked) × (t ≡ Ready) × (u ≡ Whole)
 Turns save Overwrite s t u = (s ≡ Ready) × (t ≡ Overwritten) × (u ≡ Mixed)
 Turns save Shorten s t u = (s ≡ Overwritten) × (t ≡ Cut) × (u ≡ Torn)
-Turns save Finish s t u = (s ≡ Cut) × (t ≡ Finished) × (u ≡ Torn)
 Turns save Settle s t u = (s ≡ Ready) × (t ≡ Finished) × (u ≡ Ready) × (save.first ≡ save.last) × (shrinks save ≡ false)
 Turns save Confirm s t u = (s ≡ Finished) × (t ≡ Saved) × (u ≡ Finished)
 Turns save Restore Mixed t u = (t ≡ Refilled) × (u ≡ Lacking)
@@ -96,7 +95,6 @@ still_left call bytes earlier = bytes ∷ earlier
 -- and after a call that did what it is to do
 abbrev pub since : PlaceCall → Content → List Content → List Content
 since Sync bytes earlier = []
-since Finish bytes earlier = []
 since call bytes earlier = still_left call bytes earlier
 
 -- whether it was cut before its old bytes were back, after a call

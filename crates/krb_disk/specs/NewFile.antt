@@ -1,5 +1,6 @@
 -- The new file beside one to be saved.
 use Rattle.std.specs.Prelude.{◌≡◌, ℕ, List, [], ◌∷◌, String, string_bytes, ◌++◌, codes, Option, None, Some}
+use Rattle.krb_files.specs.Log.{entries_of}
 use Rattle.krb_disk.specs.declared.calls.NewFile.{NewFile}
 use Rattle.krb_disk.specs.declared.new_file.Attempt.{Attempt}
 use Rattle.krb_disk.specs.declared.new_file.Attempt.TheVariants as attempt
@@ -13,7 +14,7 @@ pub record IsHeldAt {A F : Type 0} (path : List ℕ) (file : NewFile (String A) 
 -- these bytes were written to it, and no others, under that name
 pub record IsFilled {A F : Type 0} (path bytes : List ℕ) (file : NewFile (String A) F) : Type 0 where
   pub named : string_bytes file.path ≡ path
-  pub written : file.written.entries ≡ (path, bytes) ∷ []
+  pub written : entries_of file.written ≡ (path, bytes) ∷ []
 
 -- if the new file was created and locked, it is held, and is the file of that name
 abbrev pub HoldsAt : {A F : Type 0} → List ℕ → Attempt (NewFile (String A) F) → Type 0

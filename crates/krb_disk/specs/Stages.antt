@@ -30,11 +30,6 @@ stood Locked = Agreed
 stood (Quiet old) = Ours old
 stood _ = Ended
 
--- the stage after the old file was found as it was seen
-abbrev pub compared : Stage → Stage
-compared (Ours old) = Same old
-compared _ = Lost
-
 -- the stage after the list of locks was read
 abbrev pub watched : Bool → Stage → Stage
 watched true (Synced old) = Quiet old
@@ -122,19 +117,21 @@ abbrev pub unlooked : PlaceStage → PlaceStage
 unlooked place.Lengthened = place.Whole
 unlooked stage = place.Untouched
 
--- it is to be synced: with its new end, or with the old bytes, or with its old length
+-- it is to be synced: with its new end, or with the new bytes, or with the old ones, or with its old length
 abbrev pub IsToSync : PlaceStage → Type 0
-IsToSync stage = (stage ≡ place.Extended) ⊎ ((stage ≡ place.Refilled) ⊎ (stage ≡ place.Trimmed))
+IsToSync stage = (stage ≡ place.Extended) ⊎ ((stage ≡ place.Cut) ⊎ ((stage ≡ place.Refilled) ⊎ (stage ≡ place.Trimmed)))
 
 -- the stage after that
 abbrev pub synced_in_place : PlaceStage → PlaceStage
 synced_in_place place.Extended = place.Lengthened
+synced_in_place place.Cut = place.Finished
 synced_in_place place.Refilled = place.Whole
 synced_in_place stage = place.Back
 
 -- and if it failed
 abbrev pub unsynced : PlaceStage → PlaceStage
 unsynced place.Extended = place.Whole
+unsynced place.Cut = place.Torn
 unsynced place.Refilled = place.Lost
 unsynced stage = place.Left
 

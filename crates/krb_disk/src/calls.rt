@@ -2,13 +2,13 @@
 
 ghost use Rattle.std.specs.Prelude.{◌≡◌, [], IfOk, IfSome, OnOk, IsTrue, string_bytes};
 ghost use Rattle.std.specs.Io.KnownBytes.{Appends};
+ghost use Rattle.krb_files.specs.Log.{entries_of};
 ghost use Rattle.krb_disk.specs.NewFile.{IsFilled};
 ghost use Rattle.krb_disk.specs.Stages.{private_mode, IsDueMode, IsFound, stood, synced};
 ghost use Rattle.krb_disk.specs.declared.stage.Stage.TheVariants.{Made, Locked, Agreed, Held, Written, Examined, Permitted};
 
 mod bring_back;
 mod in_place;
-mod log;
 mod old;
 mod old_file;
 pub mod stale_file;
@@ -17,14 +17,12 @@ use crate::fault::DiskFault;
 use crate::looks::device::Listed;
 use crate::looks::{Found, Looks, is_same_file};
 use crate::noted::Noted;
-use crate::open_file::{SetOwner, TakeLock, set_owner};
+use crate::open_file::{HeldFile, System, is_refused};
 use crate::stage::{PlaceStage, Stage};
-use krb_files::save;
-use log::Log;
+use krb_files::{Cause, Log, save};
 use std::fs::{self, OpenFile, OpenOptions, Permissions};
 use std::io::{self, ErrorKind};
 use std::os::unix::fs::{OpenOptionsExt, PermissionsExt};
-use std::rt;
 
 /// The system calls of a save: nothing else in this crate can change a file, and only `rename` records a save.
 #[derive(Drop)]
@@ -34,7 +32,7 @@ pub struct Calls<'a, R> {
     /// The file loaded last: a save does not take it for a stale one.
     loaded: Option<Found>,
     /// The completed saves.
-    saved: Log,
+    saved: Option<Log>,
 }
 
 /// The new file. Only these calls reach it.
@@ -45,7 +43,7 @@ pub struct NewFile<S, F> {
     file: Noted<F>,
     stage: Stage,
     /// What was written to it.
-    written: Log,
+    written: Option<Log>,
 }
 
 /// The old file, open. Only these calls reach it.
@@ -73,24 +71,22 @@ fn describe<F: OpenFile>(file: &F) -> io::Result<Found> {
 }
 
 // Returns whether `path` still names an open file.
-fn is_at_path<R: rt::Files>(looks: &Looks<'_, R>, path: &str, file: &R::File) -> io::Result<bool> {
+fn is_at_path<R: System>(looks: &Looks<'_, R>, path: &str, file: &R::File) -> io::Result<bool> {
     let opened = describe(file)?;
-    match looks.look(path)? {
-        Some(named) => Ok(is_same_file(&named, &opened)),
-        None => Ok(false),
-    }
+    let named = looks.look(path)?;
+    Ok(named.is_some_and(|named| is_same_file(&named, &opened)))
 }
 
-impl<'a, R: rt::Files> Calls<'a, R> {
+impl<'a, R> Calls<'a, R> {
     /// Returns the calls on `rt`, with no save made yet.
     pub fn new(rt: &'a R) -> Calls<'a, R>
-        ensures { result.saved.entries ≡ [] }
+        ensures { entries_of result.saved ≡ [] }
     {
         Calls {
             rt,
             looks: Looks::new(rt),
             loaded: None,
-            saved: Log::new(),
+            saved: None,
         }
     }
 
@@ -103,10 +99,8 @@ impl<'a, R: rt::Files> Calls<'a, R> {
 
     /// Returns whether that is the file loaded last.
     pub fn spares(&self, found: &Found) -> bool {
-        match &self.loaded {
-            Some(loaded) => is_same_file(loaded, found),
-            None => false,
-        }
+        self.loaded
+            .is_some_and(|loaded| is_same_file(&loaded, found))
     }
 
     /// Returns the calls that change nothing.
@@ -115,7 +109,7 @@ impl<'a, R: rt::Files> Calls<'a, R> {
     }
 }
 
-impl<R: rt::Files + Alloc> Calls<'_, R> {
+impl<R: System> Calls<'_, R> {
     /// Creates a private file at `path`. Fails if something is there.
     pub fn make(&self, path: &str, mode: u32) -> io::Result<NewFile<String<R::A>, R::File>>
         requires private { mode ≡ private_mode }
@@ -130,7 +124,7 @@ impl<R: rt::Files + Alloc> Calls<'_, R> {
             path,
             file: Noted::new(file),
             stage: Stage::Made,
-            written: Log::new(),
+            written: None,
         })
     }
 
@@ -141,10 +135,11 @@ impl<R: rt::Files + Alloc> Calls<'_, R> {
         ensures found { IfOk result (λ is. IsTrue is → IsFound file.new.stage) }
     {
         let is_at_path = is_at_path(&self.looks, &file.path, &file.file.file)?;
-        file.stage = if is_at_path {
-            file.stage.stood()
-        } else {
-            Stage::Lost
+        file.stage = match (is_at_path, file.stage) {
+            (true, Stage::Locked) => Stage::Agreed,
+            (true, Stage::Quiet(old)) => Stage::Ours(old),
+            (true, _) => Stage::Ended,
+            (false, _) => Stage::Lost,
         };
         Ok(is_at_path)
     }
@@ -180,7 +175,7 @@ impl<R: rt::Files + Alloc> Calls<'_, R> {
             return Err(new.file.error());
         }
         new.stage = Stage::Written;
-        new.written = Log::with(&Log::new(), new.path.as_bytes(), bytes);
+        new.written = Some(Log::with(&None, new.path.as_bytes(), bytes));
         Ok(())
     }
 
@@ -216,18 +211,16 @@ impl<R: rt::Files + Alloc> Calls<'_, R> {
     pub fn sync(&self, file: &mut NewFile<String<R::A>, R::File>) -> io::Result<()>
         ensures { OnOk result (file.new ≡ record file.old { stage = synced file.old.stage }) }
     {
-        let synced = file.stage.synced();
+        let synced = match file.stage {
+            Stage::Permitted(old) => Stage::Synced(old),
+            _ => Stage::Lost,
+        };
         file.stage = Stage::Lost;
         file.file.file.sync_all()?;
         file.stage = synced;
         Ok(())
     }
-}
 
-impl<R: rt::Files + Alloc> Calls<'_, R>
-where
-    R::File: TakeLock,
-{
     /// Locks the new file and returns whether it was free. On a file system without locks, having made it is enough.
     pub fn lock(&self, file: &mut NewFile<String<R::A>, R::File>) -> io::Result<bool>
         requires made { file.old.stage ≡ Made }
@@ -242,12 +235,7 @@ where
         }
         Ok(is_locked)
     }
-}
 
-impl<R: rt::Files + Alloc> Calls<'_, R>
-where
-    R::File: SetOwner,
-{
     /// Sets the group of the new file to that of the old one, and the owner too if `owner` is given. Returns whether
     /// that was allowed.
     pub fn own(
@@ -261,6 +249,10 @@ where
         requires owner { IfSome owner (λ number. number ≡ _old.now.owner) }
         requires group { group ≡ _old.now.group }
     {
-        set_owner(&file.file.file, owner, group)
+        match file.file.file.set_owner(owner, Some(group)) {
+            Ok(()) => Ok(true),
+            Err(error) if is_refused(&error) => Ok(false),
+            Err(_) => Err(DiskFault::Failed(Cause::OwnerNotKept)),
+        }
     }
 }

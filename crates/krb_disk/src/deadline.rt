@@ -4,8 +4,8 @@ ghost use Rattle.std.specs.Prelude.{◌≡◌, ◌+◌, ◌≤◌, OnOk};
 
 use crate::fault::DiskFault;
 use crate::looks::Looks;
+use crate::open_file::System;
 use krb_files::Cause;
-use std::rt;
 use std::time::{Duration, Instant};
 
 /// The most seconds of a wait. There is one before a file is loaded and one before it is saved.
@@ -34,7 +34,7 @@ pub struct Deadline {
 
 impl Deadline {
     /// Returns a wait that begins now.
-    pub fn new<R: rt::Clock>(looks: &Looks<'_, R>) -> Deadline
+    pub fn new<R: System>(looks: &Looks<'_, R>) -> Deadline
         ensures { result.tries ≡ 0 }
     {
         Deadline {
@@ -46,7 +46,7 @@ impl Deadline {
 
     /// Returns the wait for one look: a second from now if this one was over before its first look, as when an open took
     /// long.
-    pub fn for_look<R: rt::Clock>(&self, looks: &Looks<'_, R>) -> Deadline {
+    pub fn for_look<R: System>(&self, looks: &Looks<'_, R>) -> Deadline {
         if self.tries > 0 || !self.is_over(looks) {
             return *self;
         }
@@ -58,7 +58,7 @@ impl Deadline {
     }
 
     // Returns whether that many seconds passed, by the clock. False if the clock cannot be read.
-    fn has_taken<R: rt::Clock>(&self, looks: &Looks<'_, R>, seconds: u64) -> bool {
+    fn has_taken<R: System>(&self, looks: &Looks<'_, R>, seconds: u64) -> bool {
         match (self.start, looks.now()) {
             (Some(start), Some(now)) => now.duration_since(start).as_secs() >= seconds,
             _ => false,
@@ -66,17 +66,17 @@ impl Deadline {
     }
 
     /// True after 200 tries or a second.
-    pub fn is_short<R: rt::Clock>(&self, looks: &Looks<'_, R>) -> bool {
+    pub fn is_short<R: System>(&self, looks: &Looks<'_, R>) -> bool {
         self.tries >= FEW_TRIES || self.has_taken(looks, FEW_SECONDS)
     }
 
     /// Returns whether its deadline passed, by the clock.
-    pub fn is_over<R: rt::Clock>(&self, looks: &Looks<'_, R>) -> bool {
+    pub fn is_over<R: System>(&self, looks: &Looks<'_, R>) -> bool {
         self.has_taken(looks, self.most)
     }
 
     /// Sleeps before the next try, or fails with `InUse` if no try or no time is left.
-    pub fn pause<R: rt::Clock>(&mut self, looks: &Looks<'_, R>) -> Result<(), DiskFault>
+    pub fn pause<R: System>(&mut self, looks: &Looks<'_, R>) -> Result<(), DiskFault>
         ensures counted { OnOk result (self.new.tries ≡ self.old.tries + 1) }
         ensures most { OnOk result (self.new.tries ≤ 2000) }
     {

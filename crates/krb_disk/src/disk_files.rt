@@ -1,6 +1,7 @@
 //! Files on a disk, by name.
 
 ghost use Rattle.std.specs.Prelude.{◌≡◌, ◌≤◌, ◌<◌, true, false, [], ◌∷◌, None, Some, is_ok, IfOk, OnOk, OnErr, IfErr, IsSome, IsTrue, vec_len};
+ghost use Rattle.krb_files.specs.Log.{entries_of, last_name};
 ghost use Rattle.krb_disk.specs.Aftermaths.{IsDone, IsRefused, load_fault, save_fault};
 ghost use Rattle.krb_disk.specs.DiskFiles.{Disk, Fails, CountsLoad, CountsSave, AnswersFromDisk, SavesToDisk, is_in_place, left};
 ghost use Rattle.krb_disk.specs.Holding.{IsHeldAs, is_held, name_of};
@@ -13,9 +14,8 @@ use crate::held::{Held, NotHeld};
 use crate::looks::Found;
 use crate::looks::text::check_len;
 use crate::old::Way;
-use crate::open_file::{Numbered, SetOwner, TakeLock, WriteInPlace};
-use holding::release;
-use krb_files::{Aftermath, Cause, Files, HeldName, LoadFault, Node, SaveFault};
+use crate::open_file::System;
+use krb_files::{Aftermath, Cause, Files, LoadFault, Log, Node, SaveFault};
 use std::alloc::Allocator;
 use std::marker::Model;
 use std::rt;
@@ -31,7 +31,7 @@ pub struct DiskFiles<'a, R: rt::Files + Alloc> {
     /// The permission bits of the file loaded last, if it is a plain file.
     mode: Option<u32>,
     /// The name of the file to be held, and the hold, or why it could not be held.
-    held_name: HeldName,
+    held_name: Option<Log>,
     hold: Option<Result<Held<R>, NotHeld<R::A>>>,
     /// The path at which something is in the way of the last save.
     in_the_way: Option<String<R::A>>,
@@ -47,9 +47,9 @@ impl<'a, R: rt::Files + Alloc> Model for DiskFiles<'a, R> {
     ghost view = { λ files. record {
       failures = files.failures;
       cause = files.cause;
-      saved = files.calls.saved.entries;
+      saved = entries_of files.calls.saved;
       mode = files.mode;
-      held = files.held_name.name;
+      held = last_name files.held_name;
       is_held = is_held files.hold;
       only_plain = files.only_plain;
       in_place = is_in_place files.way;
@@ -57,7 +57,7 @@ impl<'a, R: rt::Files + Alloc> Model for DiskFiles<'a, R> {
     } };
 
     // A counted failure has a cause, and what is held is the file that was to be.
-    ghost invariant = { λ files. (0 < files.failures → IsSome files.cause) × IsHeldAs files.held_name.name files.hold };
+    ghost invariant = { λ files. (0 < files.failures → IsSome files.cause) × IsHeldAs (last_name files.held_name) files.hold };
 }
 
 impl<'a, R: rt::Files + Alloc> DiskFiles<'a, R> {
@@ -70,7 +70,7 @@ impl<'a, R: rt::Files + Alloc> DiskFiles<'a, R> {
             failures: 0,
             cause: None,
             mode: None,
-            held_name: HeldName::none(),
+            held_name: None,
             hold: None,
             in_the_way: None,
             only_plain: false,
@@ -104,21 +104,21 @@ impl<'a, R: rt::Files + Alloc> DiskFiles<'a, R> {
         self.failures = self.failures.saturating_add(1);
         self.cause = Some(cause);
     }
-}
 
-impl<R: rt::Files + rt::Clock + Alloc> DiskFiles<'_, R>
-where
-    R::File: SetOwner + TakeLock + Numbered + WriteInPlace,
-{
     // Returns the error of a load that returns no bytes, and counts the failed call, if there was one.
     fn refuse_load(&mut self, fault: ReadFault) -> LoadFault
         ensures exact { result ≡ load_fault fault }
         ensures counted { CountsLoad self.old fault self.new }
     {
-        if let ReadFault::Disk(DiskFault::Failed(cause)) = fault {
-            self.count_failure(cause);
+        match fault {
+            ReadFault::Missing => LoadFault::Missing,
+            ReadFault::TooLarge => LoadFault::TooLarge,
+            ReadFault::Disk(DiskFault::NoMemory) => LoadFault::NoMemory,
+            ReadFault::Disk(DiskFault::Failed(cause)) => {
+                self.count_failure(cause);
+                LoadFault::Failed
+            }
         }
-        fault.load_fault()
     }
 
     // Returns the error of a save that was not made, and counts the failed call, if there was one.
@@ -126,17 +126,17 @@ where
         ensures exact { result ≡ save_fault fault }
         ensures counted { CountsSave self.old fault self.new }
     {
-        if let DiskFault::Failed(cause) = fault {
-            self.count_failure(cause);
+        match fault {
+            DiskFault::NoMemory => SaveFault::NoMemory,
+            DiskFault::Failed(cause) => {
+                self.count_failure(cause);
+                SaveFault::Failed
+            }
         }
-        fault.save_fault()
     }
 }
 
-impl<R: rt::Files + rt::Clock + Alloc> Files for DiskFiles<'_, R>
-where
-    R::File: SetOwner + TakeLock + Numbered + WriteInPlace,
-{
+impl<R: System> Files for DiskFiles<'_, R> {
     ghost file = { λ _ _. None };
 
     ghost is_honest = { λ _. ⊥ };
@@ -174,8 +174,8 @@ where
     fn release(&mut self)
         ensures { self.new ≡ left self.old }
     {
-        if let Ok(held) = self.take_hold() {
-            release(&self.calls, held);
+        if let Ok(Some(held)) = self.take_hold() {
+            held.release(&self.calls);
         }
     }
 
@@ -245,10 +245,7 @@ where
     }
 
     fn in_the_way(&self) -> Option<&str> {
-        match &self.in_the_way {
-            Some(path) => Some(path.as_str()),
-            None => None,
-        }
+        self.in_the_way.as_ref().map(|path| path.as_str())
     }
 
     fn aftermath(&self) -> Option<Aftermath> {

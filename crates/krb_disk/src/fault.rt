@@ -1,11 +1,11 @@
 //! Why a call on the disk failed.
 
 ghost use Rattle.std.specs.Prelude.{◌≡◌, None};
-ghost use Rattle.krb_disk.specs.Aftermaths.{IsRefused, IsUndone, load_fault, save_fault};
+ghost use Rattle.krb_disk.specs.Aftermaths.{IsRefused, IsUndone};
 ghost use Rattle.krb_disk.specs.declared.fault.DiskFault.TheVariants.{NoMemory};
 ghost use Rattle.krb_disk.specs.declared.fault.ReadFault.TheVariants.{Disk};
 
-use krb_files::{Aftermath, Cause, LoadFault, SaveFault};
+use krb_files::{Aftermath, Cause};
 use std::alloc::AllocError;
 use std::io::{self, ErrorKind};
 
@@ -84,32 +84,6 @@ impl From<DiskFault> for ReadFault {
 
     fn from(fault: DiskFault) -> ReadFault {
         ReadFault::Disk(fault)
-    }
-}
-
-impl ReadFault {
-    /// Returns the error of a load.
-    pub fn load_fault(self) -> LoadFault
-        ensures { result ≡ load_fault self }
-    {
-        match self {
-            ReadFault::Missing => LoadFault::Missing,
-            ReadFault::TooLarge => LoadFault::TooLarge,
-            ReadFault::Disk(DiskFault::NoMemory) => LoadFault::NoMemory,
-            ReadFault::Disk(DiskFault::Failed(_)) => LoadFault::Failed,
-        }
-    }
-}
-
-impl DiskFault {
-    /// Returns the error of a save.
-    pub fn save_fault(self) -> SaveFault
-        ensures { result ≡ save_fault self }
-    {
-        match self {
-            DiskFault::NoMemory => SaveFault::NoMemory,
-            DiskFault::Failed(_) => SaveFault::Failed,
-        }
     }
 }
 

@@ -1,6 +1,7 @@
 //! A held file, or why a file is not held.
 
 ghost use Rattle.std.specs.Prelude.{◌≡◌, ◌↔◌, ◌≤◌, ◌∷◌, IsTrue, IfErr, IfOk, OnOk, OnErr, vec_len};
+ghost use Rattle.krb_files.specs.Log.{entries_of};
 ghost use Rattle.krb_disk.specs.Aftermaths.{IsDone, IsRefused};
 ghost use Rattle.krb_disk.specs.Holding.{HasLoaded, name_of};
 
@@ -10,7 +11,7 @@ use crate::fault::{DiskFault, ReadFault, Unsaved};
 use crate::in_place::save_in_place;
 use crate::looks::{Found, Looks};
 use crate::old::{Old, Way};
-use crate::open_file::{Numbered, SetOwner, TakeLock, WriteInPlace};
+use crate::open_file::System;
 use crate::read::read_file;
 use crate::replacing::Replacing;
 use crate::target::find_target;
@@ -34,23 +35,18 @@ pub struct NotHeld<A: Allocator> {
 }
 
 // Returns whether a name that could not be held, by this fault, leads to a pipe.
-fn is_pipe<R: rt::Files>(looks: &Looks<'_, R>, name: &str, fault: DiskFault) -> bool {
+fn is_pipe<R: System>(looks: &Looks<'_, R>, name: &str, fault: DiskFault) -> bool {
     match fault {
-        DiskFault::Failed(Cause::NotAPlainFile | Cause::NoName) => match looks.come_to(name) {
-            Ok(found) => found.is_pipe(),
-            Err(_) => false,
-        },
+        DiskFault::Failed(Cause::NotAPlainFile | Cause::NoName) => {
+            looks.come_to(name).is_ok_and(|found| found.is_pipe())
+        }
         _ => false,
     }
 }
 
 impl<A: Allocator> NotHeld<A> {
     // Returns why the file of that name is not held.
-    fn of<R: rt::Files + Alloc<A = A>>(
-        looks: &Looks<'_, R>,
-        name: &str,
-        why: DiskFault,
-    ) -> NotHeld<A> {
+    fn of<R: System<A = A>>(looks: &Looks<'_, R>, name: &str, why: DiskFault) -> NotHeld<A> {
         if !is_pipe(looks, name, why) {
             return NotHeld { why, pipe: None };
         }
@@ -67,7 +63,7 @@ impl<A: Allocator> NotHeld<A> {
     }
 
     /// Loads the file of that name, which is not held.
-    pub fn load<R: rt::Files, B: Allocator>(
+    pub fn load<R: System, B: Allocator>(
         &self,
         looks: &Looks<'_, R>,
         alloc: B,
@@ -98,13 +94,7 @@ fn aftermath_of(has_lost: bool) -> Option<Aftermath>
 }
 
 // Holds the file that `name` leads to, or a name that is free. Waits while another program holds it.
-fn hold<R: rt::Files + rt::Clock + Alloc>(
-    calls: &Calls<'_, R>,
-    name: &str,
-    way: Way,
-) -> Result<Held<R>, DiskFault>
-where
-    R::File: SetOwner + TakeLock + Numbered,
+fn hold<R: System>(calls: &Calls<'_, R>, name: &str, way: Way) -> Result<Held<R>, DiskFault>
     ensures { IfOk result (λ held. name_of held ≡ name.now) }
 {
     let target = find_target(calls.looks(), name)?;
@@ -118,26 +108,21 @@ where
 }
 
 /// Saves a file that is not held, and returns what that left behind.
-pub fn save_anew<R: rt::Files + rt::Clock + Alloc>(
+pub fn save_anew<R: System>(
     calls: &mut Calls<'_, R>,
     name: &str,
     bytes: &[u8],
     way: Way,
 ) -> Result<Option<Aftermath>, Unsaved>
-where
-    R::File: SetOwner + TakeLock + Numbered + WriteInPlace,
-    ensures ok { OnOk result (calls.new.saved.entries ≡ (name.now, bytes.now) ∷ calls.old.saved.entries) }
-    ensures err { OnErr result (calls.new.saved.entries ≡ calls.old.saved.entries) }
+    ensures ok { OnOk result (entries_of calls.new.saved ≡ (name.now, bytes.now) ∷ entries_of calls.old.saved) }
+    ensures err { OnErr result (entries_of calls.new.saved ≡ entries_of calls.old.saved) }
     ensures done { IfOk result IsDone }
     ensures refused { IfErr result IsRefused }
 {
     hold(calls, name, way)?.write(calls, bytes)
 }
 
-impl<R: rt::Files + rt::Clock + Alloc> Held<R>
-where
-    R::File: SetOwner + TakeLock + Numbered + WriteInPlace,
-{
+impl<R: System> Held<R> {
     /// Holds the file of that name, or returns why it cannot be held.
     pub fn take(calls: &Calls<'_, R>, name: &str, way: Way) -> Result<Held<R>, NotHeld<R::A>>
         ensures { IfOk result (λ held. name_of held ≡ name.now) }
@@ -177,8 +162,8 @@ where
 
     // Saves the file that is held, and returns what that left behind. Ends the hold.
     fn write(self, calls: &mut Calls<'_, R>, bytes: &[u8]) -> Result<Option<Aftermath>, Unsaved>
-        ensures ok { OnOk result (calls.new.saved.entries ≡ (name_of self, bytes.now) ∷ calls.old.saved.entries) }
-        ensures err { OnErr result (calls.new.saved.entries ≡ calls.old.saved.entries) }
+        ensures ok { OnOk result (entries_of calls.new.saved ≡ (name_of self, bytes.now) ∷ entries_of calls.old.saved) }
+        ensures err { OnErr result (entries_of calls.new.saved ≡ entries_of calls.old.saved) }
         ensures done { IfOk result IsDone }
         ensures refused { IfErr result IsRefused }
     {
@@ -207,8 +192,8 @@ where
         bytes: &[u8],
         way: Way,
     ) -> Result<Option<Aftermath>, Unsaved>
-        ensures ok { OnOk result (calls.new.saved.entries ≡ (name.now, bytes.now) ∷ calls.old.saved.entries) }
-        ensures err { OnErr result (calls.new.saved.entries ≡ calls.old.saved.entries) }
+        ensures ok { OnOk result (entries_of calls.new.saved ≡ (name.now, bytes.now) ∷ entries_of calls.old.saved) }
+        ensures err { OnErr result (entries_of calls.new.saved ≡ entries_of calls.old.saved) }
         ensures done { IfOk result IsDone }
         ensures refused { IfErr result IsRefused }
     {

@@ -1,6 +1,7 @@
 //! A save in place.
 
-ghost use Rattle.std.specs.Prelude.{◌≡◌, ◌⊎◌, ◌∷◌, length, IfErr, IfOk, IsFalse, IsTrue, OnOk, OnErr, string_bytes};
+ghost use Rattle.std.specs.Prelude.{◌≡◌, ◌⊎◌, ◌∷◌, length, IfErr, IfOk, OnOk, OnErr, string_bytes};
+ghost use Rattle.krb_files.specs.Log.{entries_of};
 ghost use Rattle.krb_disk.specs.Aftermaths.{IsDone, IsRefused};
 ghost use Rattle.krb_disk.specs.Content.{AtEach, IsPatch, Replaces, TurnsInto, Writes};
 ghost use Rattle.krb_disk.specs.Stages.{HasFailed, IsAftermath, IsToWatch, looked, unlooked};
@@ -12,38 +13,15 @@ use crate::calls::{Calls, PlaceFile};
 use crate::deadline::{Deadline, MOST_TRIES};
 use crate::fault::{DiskFault, Unsaved};
 use crate::old::Old;
-use crate::open_file::WriteInPlace;
+use crate::open_file::System;
 use crate::patch::Patch;
 use crate::snapshot::Snapshot;
 use bring_back::bring_back;
 use krb_files::{Aftermath, Cause};
-use std::rt;
 
-// Returns whether no program has the file locked. Fails unless it is still as it was loaded, with `end` behind that once
-// it was added. The bytes are compared last, as what another program writes before that is not lost.
-fn is_ready<R: rt::Files + rt::Clock + Alloc>(
-    calls: &Calls<'_, R>,
-    file: &mut PlaceFile<R::File>,
-    old: &Old<R>,
-    end: &[u8],
-    deadline: &Deadline,
-) -> Result<bool, DiskFault>
-    requires { IsToWatch file.old.stage }
-    ensures ready { IfOk result (λ is. IsTrue is → file.new ≡ record file.old { stage = looked file.old.stage }) }
-    ensures locked { IfOk result (λ is. IsFalse is → file.new ≡ file.old) }
-    ensures err { OnErr result (file.new ≡ record file.old { stage = unlooked file.old.stage }) }
-{
-    if !calls.watch_in_place(file, &old.snapshot, deadline)? {
-        return Ok(false);
-    }
-    if !calls.compare_in_place(file, old.target.path(), &old.snapshot, end)? {
-        return Err(DiskFault::Failed(Cause::Changed));
-    }
-    Ok(true)
-}
-
-// Waits until no program has the file locked. Fails if another program changed it since it was loaded.
-fn check<R: rt::Files + rt::Clock + Alloc>(
+// Waits until no program has the file locked. Fails if another program changed it since it was loaded: the bytes are
+// compared last, as what another program writes before that is not lost.
+fn check<R: System>(
     calls: &Calls<'_, R>,
     file: &mut PlaceFile<R::File>,
     old: &Old<R>,
@@ -56,8 +34,8 @@ fn check<R: rt::Files + rt::Clock + Alloc>(
         ⊎ (file.new.stage ≡ unlooked file.old.stage)) }
 {
     for _ in 0..=MOST_TRIES {
-        if is_ready(calls, file, old, end, deadline)? {
-            return Ok(());
+        if calls.watch_in_place(file, &old.snapshot, deadline)? {
+            return calls.compare_in_place(file, old.target.path(), &old.snapshot, end);
         }
         deadline.pause(calls.looks())?;
     }
@@ -66,15 +44,13 @@ fn check<R: rt::Files + rt::Clock + Alloc>(
 
 // Writes the new bytes past the old end and syncs them, so that no old byte is gone where the new ones have no room, and
 // looks at the file once more. If there are none, nothing is to be done.
-fn lengthen<R: rt::Files + rt::Clock + Alloc>(
+fn lengthen<R: System>(
     calls: &Calls<'_, R>,
     file: &mut PlaceFile<R::File>,
     old: &Old<R>,
     patch: Patch<'_>,
     deadline: &mut Deadline,
 ) -> Result<(), DiskFault>
-where
-    R::File: WriteInPlace,
     requires { file.old.stage ≡ Same }
     ensures ok { OnOk result (file.new.stage ≡ Ready) }
     ensures err { OnErr result (file.new.stage ≡ Whole) }
@@ -97,13 +73,11 @@ where
 }
 
 // Writes the new bytes over old ones, cuts the file if it gets shorter, and syncs it.
-fn write_over<R: rt::Files>(
+fn write_over<R: System>(
     calls: &Calls<'_, R>,
     file: &mut PlaceFile<R::File>,
     patch: Patch<'_>,
 ) -> Result<(), DiskFault>
-where
-    R::File: WriteInPlace,
     requires ready { file.old.stage ≡ Ready }
     requires patch { IsPatch patch.before.now patch.after.now patch.first patch.last }
     ensures ok { OnOk result (file.new.stage ≡ Finished) }
@@ -117,19 +91,17 @@ where
     }
     calls.overwrite(file, patch)?;
     calls.shorten(file, patch)?;
-    Ok(calls.finish(file)?)
+    Ok(calls.sync_in_place(file)?)
 }
 
 // Writes the new bytes: those past the old end, and then those over old ones.
-fn write<R: rt::Files + rt::Clock + Alloc>(
+fn write<R: System>(
     calls: &Calls<'_, R>,
     file: &mut PlaceFile<R::File>,
     old: &Old<R>,
     patch: Patch<'_>,
     deadline: &mut Deadline,
 ) -> Result<(), DiskFault>
-where
-    R::File: WriteInPlace,
     requires same { file.old.stage ≡ Same }
     requires patch { IsPatch patch.before.now patch.after.now patch.first patch.last }
     ensures ok { OnOk result (file.new.stage ≡ Finished) }
@@ -142,24 +114,22 @@ where
 }
 
 // Writes the new bytes over the old ones, or brings these back, and returns what another program's writing left.
-fn change<R: rt::Files + rt::Clock + Alloc>(
+fn change<R: System>(
     calls: &mut Calls<'_, R>,
     file: &mut PlaceFile<R::File>,
     old: &Old<R>,
     patch: Patch<'_>,
     deadline: &mut Deadline,
 ) -> Result<Option<Aftermath>, Unsaved>
-where
-    R::File: WriteInPlace,
     requires same { file.old.stage ≡ Same }
     requires patch { IsPatch patch.before.now patch.after.now patch.first patch.last }
     ensures stage { OnOk result (file.new.stage ≡ Saved) }
     ensures done { IfOk result IsDone }
     ensures aftermath { IfErr result (λ unsaved. IsAftermath file.new.stage unsaved.aftermath) }
     ensures refused { IfErr result IsRefused }
-    ensures saved { OnOk result (calls.new.saved.entries
-        ≡ (string_bytes old.now.target.name, patch.entry.after.now) ∷ calls.old.saved.entries) }
-    ensures unsaved { OnErr result (calls.new.saved.entries ≡ calls.old.saved.entries) }
+    ensures saved { OnOk result (entries_of calls.new.saved
+        ≡ (string_bytes old.now.target.name, patch.entry.after.now) ∷ entries_of calls.old.saved) }
+    ensures unsaved { OnErr result (entries_of calls.new.saved ≡ entries_of calls.old.saved) }
 {
     if let Err(fault) = write(calls, file, old, patch, deadline) {
         return Err(Unsaved::leaving(fault, bring_back(calls, file, patch)));
@@ -168,42 +138,15 @@ where
     Ok(calls.look_after(file, patch.after))
 }
 
-// Writes these bytes over those that were loaded, once no program has the file locked.
-fn save_over<R: rt::Files + rt::Clock + Alloc>(
-    calls: &mut Calls<'_, R>,
-    file: &mut PlaceFile<R::File>,
-    old: &Old<R>,
-    bytes: &[u8],
-) -> Result<Option<Aftermath>, Unsaved>
-where
-    R::File: WriteInPlace,
-    requires { file.old.stage ≡ Untouched }
-    ensures ok { OnOk result (calls.new.saved.entries
-        ≡ (string_bytes old.now.target.name, bytes.now) ∷ calls.old.saved.entries) }
-    ensures err { OnErr result (calls.new.saved.entries ≡ calls.old.saved.entries) }
-    ensures done { IfOk result IsDone }
-    ensures refused { IfErr result IsRefused }
-{
-    let mut deadline = Deadline::new(calls.looks());
-    check(calls, file, old, &[], &mut deadline)?;
-    let Snapshot::Loaded(_, before) = &old.snapshot else {
-        return Err(Unsaved::from(DiskFault::Failed(Cause::Changed)));
-    };
-    let patch = Patch::between(before, bytes);
-    change(calls, file, old, patch, &mut deadline)
-}
-
 /// Writes these bytes over those of the file, or fails and leaves it unchanged, or says what it has left. Ends the hold.
-pub fn save_in_place<R: rt::Files + rt::Clock + Alloc>(
+pub fn save_in_place<R: System>(
     calls: &mut Calls<'_, R>,
     mut old: Old<R>,
     bytes: &[u8],
 ) -> Result<Option<Aftermath>, Unsaved>
-where
-    R::File: WriteInPlace,
-    ensures ok { OnOk result (calls.new.saved.entries
-        ≡ (string_bytes old.target.name, bytes.now) ∷ calls.old.saved.entries) }
-    ensures err { OnErr result (calls.new.saved.entries ≡ calls.old.saved.entries) }
+    ensures ok { OnOk result (entries_of calls.new.saved
+        ≡ (string_bytes old.target.name, bytes.now) ∷ entries_of calls.old.saved) }
+    ensures err { OnErr result (entries_of calls.new.saved ≡ entries_of calls.old.saved) }
     ensures done { IfOk result IsDone }
     ensures refused { IfErr result IsRefused }
 {
@@ -212,5 +155,11 @@ where
         return Err(Unsaved::from(DiskFault::Failed(Cause::NoFile)));
     };
     let mut file = file.to_be_written()?;
-    save_over(calls, &mut file, &old, bytes)
+    let mut deadline = Deadline::new(calls.looks());
+    check(calls, &mut file, &old, &[], &mut deadline)?;
+    let Snapshot::Loaded(_, before) = &old.snapshot else {
+        return Err(Unsaved::from(DiskFault::Failed(Cause::Changed)));
+    };
+    let patch = Patch::between(before, bytes);
+    change(calls, &mut file, &old, patch, &mut deadline)
 }

@@ -22,5 +22,5 @@ mod stage;
 mod target;
 
 pub use disk_files::DiskFiles;
-pub use open_file::{Numbered, SetOwner, TakeLock, WriteInPlace};
+pub use open_file::{HeldFile, System};
 pub use stage::{each_moment_in_place_is_safe, each_moment_is_safe};

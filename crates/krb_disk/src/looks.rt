@@ -10,6 +10,7 @@ pub mod locks;
 pub mod text;
 pub mod users;
 
+use crate::open_file::System;
 use krb_files::Node;
 use std::fs::{self, Metadata, OpenFile};
 use std::io::{self, ErrorKind, Read};
@@ -123,11 +124,13 @@ impl<F: OpenFile> Opened<F> {
     }
 }
 
-impl<'a, R: rt::Files> Looks<'a, R> {
+impl<'a, R> Looks<'a, R> {
     pub fn new(rt: &'a R) -> Looks<'a, R> {
         Looks { rt }
     }
+}
 
+impl<R: System> Looks<'_, R> {
     /// Returns what is at `path`, or `None` if nothing is. A symbolic link is not followed.
     pub fn look(&self, path: &str) -> io::Result<Option<Found>> {
         match fs::symlink_metadata(self.rt, path) {
@@ -159,22 +162,16 @@ impl<'a, R: rt::Files> Looks<'a, R> {
             Err(error) => Err(error),
         }
     }
-}
 
-impl<R: Alloc> Looks<'_, R> {
     pub fn alloc(&self) -> R::A {
         self.rt.alloc()
     }
-}
 
-impl<R: rt::Files + Alloc> Looks<'_, R> {
     /// Returns the target of a symbolic link.
     pub fn follow(&self, path: &str) -> io::Result<PathBuf<R::A>> {
         fs::read_link(self.rt, path)
     }
-}
 
-impl<R: rt::Clock> Looks<'_, R> {
     /// Sleeps.
     pub fn pause(&self, time: Duration) {
         thread::sleep(self.rt, time);

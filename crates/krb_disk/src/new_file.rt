@@ -12,9 +12,8 @@ use crate::looks::Found;
 use crate::looks::device::{Listed, Mounted};
 use crate::looks::locks::{LockKind, is_locked};
 use crate::looks::users::Users;
-use crate::open_file::TakeLock;
+use crate::open_file::System;
 use std::io::{self, ErrorKind};
-use std::rt;
 
 /// The mode of a file that did not exist before, and of any new file while it is written.
 pub const PRIVATE: u32 = 0o600;
@@ -30,7 +29,7 @@ pub enum Attempt<F> {
 }
 
 /// Removes our new file, unless its path no longer names it.
-pub fn remove_own<R: rt::Files + Alloc>(
+pub fn remove_own<R: System>(
     calls: &Calls<'_, R>,
     file: &mut NewFile<String<R::A>, R::File>,
 ) -> io::Result<()> {
@@ -40,28 +39,11 @@ pub fn remove_own<R: rt::Files + Alloc>(
     Ok(())
 }
 
-// Creates the new file at `path`, for its owner alone. Returns `None` if something is there.
-fn make_new<R: rt::Files + Alloc>(
-    calls: &Calls<'_, R>,
-    path: &str,
-) -> Result<Option<NewFile<String<R::A>, R::File>>, DiskFault>
-    ensures path { IfOk result (λ made. IfSome made (λ file. string_bytes file.path ≡ path.now)) }
-    ensures stage { IfOk result (λ made. IfSome made (λ file. file.stage ≡ Made)) }
-{
-    match calls.make(path, PRIVATE) {
-        Ok(file) => Ok(Some(file)),
-        Err(error) if error.kind() == ErrorKind::AlreadyExists => Ok(None),
-        Err(error) => Err(DiskFault::from(error)),
-    }
-}
-
 // Locks a file that was just created and duplicates its handle. Returns whether it is held then.
-fn lock_new<R: rt::Files + Alloc>(
+fn lock_new<R: System>(
     calls: &Calls<'_, R>,
     file: &mut NewFile<String<R::A>, R::File>,
 ) -> io::Result<bool>
-where
-    R::File: TakeLock,
     requires { file.old.stage ≡ Made }
     ensures { IfOk result (λ is. IsTrue is → IsHeldAt (string_bytes file.old.path) file.new) }
 {
@@ -72,30 +54,9 @@ where
     Ok(true)
 }
 
-// Removes a stale file that is locked, if a killed run left it.
-fn remove_abandoned<R: rt::Files>(
-    calls: &Calls<'_, R>,
-    file: &mut StaleFile<'_, R::File>,
-    users: Users,
-) -> io::Result<()>
-    requires { file.old.is_locked ≡ true }
-{
-    if calls.is_abandoned(file, users)? {
-        calls.remove_stale_file(file, users)?;
-    }
-    Ok(())
-}
-
 // Locks what may be a stale file, and removes it if a killed run left it. Returns whether to try again to create the
 // new file.
-fn clear_stale<R: rt::Files + Alloc>(
-    calls: &Calls<'_, R>,
-    path: &str,
-    users: Users,
-) -> io::Result<bool>
-where
-    R::File: TakeLock,
-{
+fn clear_stale<R: System>(calls: &Calls<'_, R>, path: &str, users: Users) -> io::Result<bool> {
     let mut file = calls.open_stale_file(path)?;
     match calls.lock_stale_file(&mut file) {
         Err(error) if error.kind() == ErrorKind::Unsupported => return Ok(false),
@@ -103,20 +64,19 @@ where
         Ok(false) => return Ok(true),
         Ok(true) => {}
     }
-    remove_abandoned(calls, &mut file, users)?;
+    if calls.is_abandoned(&mut file, users)? {
+        calls.remove_stale_file(&file, users)?;
+    }
     Ok(true)
 }
 
 // Removes what a killed run left at the new file's path. Returns whether to try again to create the new file.
-fn clear_place<R: rt::Files + Alloc>(
+fn clear_place<R: System>(
     calls: &Calls<'_, R>,
     path: &str,
     found: &Found,
     owner: Option<u32>,
-) -> io::Result<bool>
-where
-    R::File: TakeLock,
-{
+) -> io::Result<bool> {
     let users = Users::of_run(calls.looks(), owner);
     if !users.may_have_left(found) || calls.spares(found) {
         return Ok(false);
@@ -130,15 +90,12 @@ where
 
 // Returns whether to try again to create the new file: its path is free or cleared, or what is there is locked. A file
 // without a link was removed while it was looked at.
-fn try_place<R: rt::Files + rt::Clock + Alloc>(
+fn try_place<R: System>(
     calls: &Calls<'_, R>,
     path: &str,
     owner: Option<u32>,
     deadline: &Deadline,
-) -> Result<bool, DiskFault>
-where
-    R::File: TakeLock,
-{
+) -> Result<bool, DiskFault> {
     let Some(found) = calls.looks().look(path)? else {
         return Ok(true);
     };
@@ -153,21 +110,21 @@ where
 }
 
 /// Tries to create and lock the new file at `path`, beside a file of that owner.
-pub fn make_locked<R: rt::Files + rt::Clock + Alloc>(
+pub fn make_locked<R: System>(
     calls: &Calls<'_, R>,
     path: &str,
     owner: Option<u32>,
     deadline: &Deadline,
 ) -> Result<Attempt<NewFile<String<R::A>, R::File>>, DiskFault>
-where
-    R::File: TakeLock,
     ensures { IfOk result (λ attempt. HoldsAt path.now attempt) }
 {
-    let Some(mut file) = make_new(calls, path)? else {
-        return match try_place(calls, path, owner, deadline)? {
-            true => Ok(Attempt::InUse),
-            false => Ok(Attempt::InTheWay),
-        };
+    let mut file = match calls.make(path, PRIVATE) {
+        Ok(file) => file,
+        Err(error) if error.kind() != ErrorKind::AlreadyExists => {
+            return Err(DiskFault::from(error));
+        }
+        Err(_) if try_place(calls, path, owner, deadline)? => return Ok(Attempt::InUse),
+        Err(_) => return Ok(Attempt::InTheWay),
     };
     match lock_new(calls, &mut file) {
         Ok(true) => Ok(Attempt::Locked(file)),

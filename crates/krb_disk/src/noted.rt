@@ -1,8 +1,8 @@
 //! A file that keeps its last error.
 
-use std::io::{self, Read, Write};
+use std::io::{self, Write};
 
-/// A file that keeps the error of its last failed read or write.
+/// A file that keeps the error of its last failed write.
 #[derive(Drop)]
 pub struct Noted<F> {
     pub file: F,
@@ -24,20 +24,6 @@ impl<F> Noted<F> {
         match self.error {
             Some(error) => error,
             None => io::Error::from(io::ErrorKind::WriteZero),
-        }
-    }
-}
-
-impl<F: Read> Read for Noted<F> {
-    ghost remaining = { λ noted. F.remaining noted.file };
-
-    fn read(&mut self, buf: &mut [u8]) -> io::Result<usize> {
-        match self.file.read(buf) {
-            Ok(count) => Ok(count),
-            Err(error) => {
-                self.error = Some(error);
-                Err(error)
-            }
         }
     }
 }

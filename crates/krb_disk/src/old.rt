@@ -11,7 +11,7 @@ use crate::fault::{DiskFault, ReadFault};
 use crate::looks::Found;
 use crate::looks::device::Listed;
 use crate::looks::locks::LockKind;
-use crate::open_file::{Numbered, TakeLock};
+use crate::open_file::System;
 use crate::snapshot::Snapshot;
 use crate::target::Target;
 use krb_files::Cause;
@@ -55,15 +55,13 @@ struct Opened<F> {
 }
 
 // Locks the open file. Returns nothing if another program has it, or replaced it.
-fn lock_opened<R: rt::Files + rt::Clock + Alloc>(
+fn lock_opened<R: System>(
     calls: &Calls<'_, R>,
     path: &str,
     way: Way,
     mut file: OldFile<R::File>,
     deadline: &Deadline,
 ) -> Result<Option<Opened<R::File>>, DiskFault>
-where
-    R::File: TakeLock + Numbered,
     ensures { IfOk result (λ tried. IfSome tried (λ opened. IfSome opened.handle IsGuarded)) }
 {
     if !calls.lock_old(&mut file, path) {
@@ -83,17 +81,15 @@ where
 }
 
 // Opens and locks the plain file at `path`, if one is there. Returns nothing if another program has it.
-fn try_old<R: rt::Files + rt::Clock + Alloc>(
+fn try_old<R: System>(
     calls: &Calls<'_, R>,
     path: &str,
     way: Way,
     deadline: &Deadline,
 ) -> Result<Option<Opened<R::File>>, DiskFault>
-where
-    R::File: TakeLock + Numbered,
     ensures { IfOk result (λ tried. IfSome tried (λ opened. IfSome opened.handle IsGuarded)) }
 {
-    let Some(found) = calls.see(path)? else {
+    let Some(found) = calls.looks().look(path)? else {
         return Ok(Some(Opened {
             handle: None,
             found: None,
@@ -109,30 +105,7 @@ where
     }
 }
 
-// Opens and locks the plain file at `path`, if one is there, after waiting for any other program that has it.
-fn hold_old<R: rt::Files + rt::Clock + Alloc>(
-    calls: &Calls<'_, R>,
-    path: &str,
-    way: Way,
-    deadline: &mut Deadline,
-) -> Result<Opened<R::File>, DiskFault>
-where
-    R::File: TakeLock + Numbered,
-    ensures { IfOk result (λ opened. IfSome opened.handle IsGuarded) }
-{
-    for _ in 0..=MOST_TRIES {
-        if let Some(opened) = try_old(calls, path, way, deadline)? {
-            return Ok(opened);
-        }
-        deadline.pause(calls.looks())?;
-    }
-    Err(DiskFault::Failed(Cause::InUse))
-}
-
-impl<R: rt::Files + rt::Clock + Alloc> Old<R>
-where
-    R::File: TakeLock + Numbered,
-{
+impl<R: System> Old<R> {
     /// Holds the file of that target. Waits while another program has it.
     pub fn hold(
         calls: &Calls<'_, R>,
@@ -143,16 +116,19 @@ where
         ensures target { IfOk result (λ old. old.target ≡ target) }
         ensures guarded { IfOk result (λ old. IfSome old.handle IsGuarded) }
     {
-        let Opened { handle, found } = hold_old(calls, target.path(), way, deadline)?;
-        Ok(Old {
-            target,
-            handle,
-            snapshot: Snapshot::of(found),
-        })
+        for _ in 0..=MOST_TRIES {
+            if let Some(opened) = try_old(calls, target.path(), way, deadline)? {
+                return Ok(Old {
+                    target,
+                    handle: opened.handle,
+                    snapshot: Snapshot::of(opened.found),
+                });
+            }
+            deadline.pause(calls.looks())?;
+        }
+        Err(DiskFault::Failed(Cause::InUse))
     }
-}
 
-impl<R: rt::Files + Alloc> Old<R> {
     /// Returns whether it was held by that name.
     pub fn is_of(&self, name: &str) -> bool
         ensures { IsTrue result ↔ (string_bytes self.now.target.name ≡ name.now) }

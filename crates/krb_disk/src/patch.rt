@@ -119,9 +119,6 @@ impl<'a> Patch<'a> {
 
     /// Returns the bytes past the old end.
     pub fn end(&self) -> &'a [u8] {
-        match self.after.get(self.before.len()..) {
-            Some(end) => end,
-            None => &[],
-        }
+        self.after.get(self.before.len()..).unwrap_or(&[])
     }
 }

@@ -5,11 +5,10 @@ ghost use Rattle.krb_disk.specs.DiskFiles.{refused_others};
 
 use crate::fault::{DiskFault, ReadFault};
 use crate::looks::{Found, Looks};
-use crate::noted::Noted;
+use crate::open_file::System;
 use krb_files::{Cause, LoadFault, Node, WatchedReader, load};
 use std::alloc::Allocator;
 use std::io::{self, Read};
-use std::rt;
 
 /// How many bytes are compared at once.
 const PIECE: usize = 16_384;
@@ -23,19 +22,20 @@ pub fn read_open<A: Allocator, F: Read + Drop>(
 ) -> Result<Vec<u8, A>, ReadFault>
     ensures { IfOk result (λ bytes. vec_len bytes ≤ limit) }
 {
-    let mut file = WatchedReader::new(Noted::new(file));
+    let mut file = WatchedReader::new(file);
     match load(alloc, &mut file, limit, expected) {
         Ok(bytes) => Ok(bytes),
         Err(LoadFault::TooLarge) => Err(ReadFault::TooLarge),
         Err(LoadFault::NoMemory) => Err(ReadFault::Disk(DiskFault::NoMemory)),
         Err(LoadFault::Missing | LoadFault::Failed) => {
-            Err(ReadFault::from(file.into_reader().error()))
+            let cause = file.cause().unwrap_or(Cause::InputOutput);
+            Err(ReadFault::Disk(DiskFault::Failed(cause)))
         }
     }
 }
 
 /// Reads a file of at most `limit` bytes.
-pub fn read_file<R: rt::Files, A: Allocator>(
+pub fn read_file<R: System, A: Allocator>(
     looks: &Looks<'_, R>,
     alloc: A,
     path: &str,

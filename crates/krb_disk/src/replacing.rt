@@ -1,7 +1,8 @@
 //! A save that replaces the old file by a new one.
 
-ghost use Rattle.std.specs.Prelude.{◌≡◌, ◌∷◌, IfOk, IsFalse, IsTrue, OnOk, OnErr, string_bytes};
+ghost use Rattle.std.specs.Prelude.{◌≡◌, ◌∷◌, IfOk, OnOk, OnErr, string_bytes};
 ghost use Rattle.std.specs.Path.{path_buf_bytes};
+ghost use Rattle.krb_files.specs.Log.{entries_of};
 ghost use Rattle.krb_disk.specs.Looks.{IsPlainOrNone};
 ghost use Rattle.krb_disk.specs.NewFile.{IsHeldAt, new_path};
 ghost use Rattle.krb_disk.specs.Stages.{snapshot_file};
@@ -12,7 +13,7 @@ use crate::deadline::{Deadline, MOST_TRIES};
 use crate::fault::DiskFault;
 use crate::new_file::{Attempt, make_locked, remove_own};
 use crate::old::{Old, Way};
-use crate::open_file::{Numbered, SetOwner, TakeLock};
+use crate::open_file::System;
 use crate::save::fill;
 use crate::target::Target;
 use krb_files::Cause;
@@ -27,14 +28,12 @@ pub struct Replacing<R: rt::Files + Alloc> {
 }
 
 // Creates and locks the new file, after waiting for any other program that has it.
-fn make_new_file<R: rt::Files + rt::Clock + Alloc>(
+fn make_new_file<R: System>(
     calls: &Calls<'_, R>,
     path: &str,
     owner: Option<u32>,
     deadline: &mut Deadline,
 ) -> Result<NewFile<String<R::A>, R::File>, DiskFault>
-where
-    R::File: TakeLock,
     ensures { IfOk result (λ file. IsHeldAt path.now file) }
 {
     for _ in 0..=MOST_TRIES {
@@ -50,7 +49,7 @@ where
 }
 
 // Fails unless the new file is still ours and the old one is still as it was seen.
-fn compare<R: rt::Files + Alloc>(
+fn compare<R: System>(
     calls: &Calls<'_, R>,
     new_file: &mut NewFile<String<R::A>, R::File>,
     old: &Old<R>,
@@ -67,31 +66,9 @@ fn compare<R: rt::Files + Alloc>(
     }
 }
 
-// Returns whether no program has locked the file to change it. Fails unless the new file is still ours and the file
-// is still as it was seen: that is compared last, as a change that another program makes before it is not lost.
-fn is_ready<R: rt::Files + rt::Clock + Alloc>(
-    calls: &Calls<'_, R>,
-    new_file: &mut NewFile<String<R::A>, R::File>,
-    old: &Old<R>,
-    deadline: &Deadline,
-) -> Result<bool, DiskFault>
-    requires synced { new_file.old.stage ≡ Synced (snapshot_file old.now.snapshot) }
-    requires beside { string_bytes new_file.old.path ≡ new_path (path_buf_bytes old.now.target.path) }
-    ensures ready { IfOk result (λ is. IsTrue is
-        → new_file.new ≡ record new_file.old { stage = Same (snapshot_file old.now.snapshot) }) }
-    ensures plain { IfOk result (λ is. IsTrue is → IsPlainOrNone (snapshot_file old.now.snapshot)) }
-    ensures locked { IfOk result (λ is. IsFalse is → new_file.new ≡ new_file.old) }
-{
-    if !calls.watch(new_file, old.listed(), deadline)? {
-        return Ok(false);
-    }
-    compare(calls, new_file, old)?;
-    Ok(true)
-}
-
 // Fails if another program keeps the file locked to change it, changed it since it was seen, or replaced or removed the
-// new file.
-fn check<R: rt::Files + rt::Clock + Alloc>(
+// new file. The old file is compared last, as a change that another program makes before it is not lost.
+fn check<R: System>(
     calls: &Calls<'_, R>,
     new_file: &mut NewFile<String<R::A>, R::File>,
     old: &Old<R>,
@@ -103,8 +80,8 @@ fn check<R: rt::Files + rt::Clock + Alloc>(
 {
     let mut deadline = Deadline::new(calls.looks());
     for _ in 0..=MOST_TRIES {
-        if is_ready(calls, new_file, old, &deadline)? {
-            return Ok(());
+        if calls.watch(new_file, old.listed(), &deadline)? {
+            return compare(calls, new_file, old);
         }
         deadline.pause(calls.looks())?;
     }
@@ -112,28 +89,23 @@ fn check<R: rt::Files + rt::Clock + Alloc>(
 }
 
 // Fills the new file and renames it over the old one.
-fn replace<R: rt::Files + rt::Clock + Alloc>(
+fn replace<R: System>(
     calls: &mut Calls<'_, R>,
     new_file: &mut NewFile<String<R::A>, R::File>,
     old: &Old<R>,
     bytes: &[u8],
 ) -> Result<(), DiskFault>
-where
-    R::File: SetOwner,
     requires { IsHeldAt (new_path (path_buf_bytes old.now.target.path)) new_file.old }
-    ensures ok { OnOk result (calls.new.saved.entries
-        ≡ (string_bytes old.now.target.name, bytes.now) ∷ calls.old.saved.entries) }
-    ensures err { OnErr result (calls.new.saved.entries ≡ calls.old.saved.entries) }
+    ensures ok { OnOk result (entries_of calls.new.saved
+        ≡ (string_bytes old.now.target.name, bytes.now) ∷ entries_of calls.old.saved) }
+    ensures err { OnErr result (entries_of calls.new.saved ≡ entries_of calls.old.saved) }
 {
     fill(calls, new_file, bytes, old.snapshot.file())?;
     check(calls, new_file, old)?;
     calls.rename(new_file, &old.target, bytes)
 }
 
-impl<R: rt::Files + rt::Clock + Alloc> Replacing<R>
-where
-    R::File: SetOwner + TakeLock + Numbered,
-{
+impl<R: System> Replacing<R> {
     /// Holds the file of that target, or its name if that is free. Waits while another program holds it.
     pub fn take(calls: &Calls<'_, R>, target: Target<R::A>) -> Result<Replacing<R>, DiskFault>
         ensures { IfOk result (λ hold. hold.old.target ≡ target) }
@@ -153,9 +125,9 @@ where
     /// Replaces the file, or fails and leaves it unchanged. Returns whether a change was lost that another program made
     /// to the old file after it was compared. Ends the hold.
     pub fn save(self, calls: &mut Calls<'_, R>, bytes: &[u8]) -> Result<bool, DiskFault>
-        ensures ok { OnOk result (calls.new.saved.entries
-            ≡ (string_bytes self.old.target.name, bytes.now) ∷ calls.old.saved.entries) }
-        ensures err { OnErr result (calls.new.saved.entries ≡ calls.old.saved.entries) }
+        ensures ok { OnOk result (entries_of calls.new.saved
+            ≡ (string_bytes self.old.target.name, bytes.now) ∷ entries_of calls.old.saved) }
+        ensures err { OnErr result (entries_of calls.new.saved ≡ entries_of calls.old.saved) }
     {
         let Replacing {
             mut old,

@@ -11,17 +11,14 @@ use crate::fault::DiskFault;
 use crate::looks::Found;
 use crate::mode::{Inheritance, new_mode};
 use crate::new_file::PRIVATE;
-use crate::open_file::SetOwner;
-use std::rt;
+use crate::open_file::System;
 
 // Sets the owner and the group of the new file to those of the old one, or the group alone, as far as that is allowed.
-fn give_owner<R: rt::Files + Alloc>(
+fn give_owner<R: System>(
     calls: &Calls<'_, R>,
     file: &NewFile<String<R::A>, R::File>,
     old: &Found,
 ) -> Result<(), DiskFault>
-where
-    R::File: SetOwner,
     requires { file.now.stage ≡ Written }
 {
     if !calls.own(file, old, Some(old.owner), old.group)? {
@@ -31,7 +28,7 @@ where
 }
 
 // Sets the mode due to the new file, and syncs it.
-fn permit_and_sync<R: rt::Files + Alloc>(
+fn permit_and_sync<R: System>(
     calls: &Calls<'_, R>,
     file: &mut NewFile<String<R::A>, R::File>,
     old: Option<Found>,
@@ -45,13 +42,11 @@ fn permit_and_sync<R: rt::Files + Alloc>(
 }
 
 // Sets the owner and the group of the new file as far as allowed, and the mode due after that, and syncs it.
-fn inherit<R: rt::Files + Alloc>(
+fn inherit<R: System>(
     calls: &Calls<'_, R>,
     file: &mut NewFile<String<R::A>, R::File>,
     old: Found,
 ) -> Result<(), DiskFault>
-where
-    R::File: SetOwner,
     requires { file.old.stage ≡ Written }
     ensures { OnOk result (file.new ≡ record file.old { stage = Synced (Some old) }) }
 {
@@ -64,37 +59,21 @@ where
     permit_and_sync(calls, file, Some(old), new_mode(old.mode, has))
 }
 
-// Sets the owner, the group and the mode of the new file, and syncs it.
-fn complete<R: rt::Files + Alloc>(
-    calls: &Calls<'_, R>,
-    file: &mut NewFile<String<R::A>, R::File>,
-    old: Option<Found>,
-) -> Result<(), DiskFault>
-where
-    R::File: SetOwner,
-    requires { file.old.stage ≡ Written }
-    ensures { OnOk result (file.new ≡ record file.old { stage = Synced old }) }
-{
-    match old {
-        Some(old) => inherit(calls, file, old),
-        None => permit_and_sync(calls, file, None, PRIVATE),
-    }
-}
-
 /// Writes the whole new file, sets its owner and mode, and syncs it.
-pub fn fill<R: rt::Files + Alloc>(
+pub fn fill<R: System>(
     calls: &Calls<'_, R>,
     new: &mut NewFile<String<R::A>, R::File>,
     bytes: &[u8],
     old: Option<Found>,
 ) -> Result<(), DiskFault>
-where
-    R::File: SetOwner,
     requires { new.old.stage ≡ Held }
     ensures written { OnOk result (Appends (R.File.contents new.old.file.file) (R.File.contents new.new.file.file) bytes.now) }
     ensures filled { OnOk result (IsFilled (string_bytes new.old.path) bytes.now new.new) }
     ensures stage { OnOk result (new.new.stage ≡ Synced old) }
 {
     calls.write(new, bytes)?;
-    complete(calls, new, old)
+    match old {
+        Some(old) => inherit(calls, new, old),
+        None => permit_and_sync(calls, new, None, PRIVATE),
+    }
 }

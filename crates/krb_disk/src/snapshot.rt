@@ -7,11 +7,11 @@ ghost use Rattle.krb_disk.specs.Stages.{IsLoaded, WasReadAgain, snapshot_file};
 
 use crate::fault::DiskFault;
 use crate::looks::{Found, Looks, Opened, is_unchanged};
+use crate::open_file::System;
 use crate::read::{Parts, has_bytes};
 use std::alloc::Allocator;
 use std::fs::OpenFile;
 use std::io::{self, Read};
-use std::rt;
 use wiping::Wiping;
 
 /// A snapshot: what was at a path when it was held or, if it was loaded since, what was loaded. The bytes are cleared
@@ -43,7 +43,7 @@ fn has_content<F: OpenFile + Read>(
 }
 
 // Returns whether `path` leads to that file, unchanged, with these bytes.
-fn leads_to<R: rt::Files>(
+fn leads_to<R: System>(
     looks: &Looks<'_, R>,
     path: &str,
     file: &Found,
@@ -90,7 +90,7 @@ impl<A: Allocator> Snapshot<A> {
 
     /// Returns whether this is still what is at `path`: nothing, or the same plain file, now with `end` behind its
     /// bytes. A symbolic link does not count as the file that it leads to.
-    pub fn is_at<R: rt::Files>(
+    pub fn is_at<R: System>(
         &self,
         looks: &Looks<'_, R>,
         path: &str,

@@ -1,7 +1,5 @@
 //! The stages of a save: of the new file beside an old one, and of an old file in place; and laws of these.
 
-ghost use Rattle.std.specs.Prelude.{◌≡◌};
-ghost use Rattle.krb_disk.specs.Stages.{stood, compared, watched, synced, IsFound};
 ghost use Rattle.krb_disk.specs.Disk.{EachMomentIsSafe, Saves};
 ghost use Rattle.krb_disk.specs.InPlace.{EachMomentInPlaceIsSafe, SavesInPlace};
 
@@ -33,51 +31,6 @@ pub enum Stage {
     Ended,
     /// It was renamed over the old file, it is no longer at its path, or a comparison or a call failed.
     Lost,
-}
-
-impl Stage {
-    /// Returns the stage after it was found at its path.
-    pub fn stood(self) -> Stage
-        ensures exact { result ≡ stood self }
-        ensures found { IsFound result }
-    {
-        match self {
-            Stage::Locked => Stage::Agreed,
-            Stage::Quiet(old) => Stage::Ours(old),
-            _ => Stage::Ended,
-        }
-    }
-
-    /// Returns the stage after the old file was found as it was seen.
-    pub fn compared(self) -> Stage
-        ensures { result ≡ compared self }
-    {
-        match self {
-            Stage::Ours(old) => Stage::Same(old),
-            _ => Stage::Lost,
-        }
-    }
-
-    /// Returns the stage after the list of locks was read. If the old file is locked, it is read again.
-    pub fn watched(self, is_quiet: bool) -> Stage
-        ensures { result ≡ watched is_quiet self }
-    {
-        match (self, is_quiet) {
-            (Stage::Synced(old), true) => Stage::Quiet(old),
-            (Stage::Synced(old), false) => Stage::Synced(old),
-            _ => Stage::Lost,
-        }
-    }
-
-    /// Returns the stage after it was synced.
-    pub fn synced(self) -> Stage
-        ensures { result ≡ synced self }
-    {
-        match self {
-            Stage::Permitted(old) => Stage::Synced(old),
-            _ => Stage::Lost,
-        }
-    }
 }
 
 /// The stage of the old file in a save in place: the last call on it, and what that returned.

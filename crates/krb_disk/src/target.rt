@@ -6,11 +6,11 @@ ghost use Rattle.krb_disk.specs.NewFile.{folder, new_path};
 
 use crate::fault::DiskFault;
 use crate::looks::{Found, Looks, is_same_file};
+use crate::open_file::System;
 use krb_files::Cause;
 use std::alloc::{AllocError, Allocator};
 use std::io::{self, ErrorKind};
 use std::path::PathBuf;
-use std::rt;
 
 /// The most symbolic links that are followed, as in Linux.
 const MOST_LINKS: usize = 40;
@@ -73,10 +73,7 @@ impl<A: Allocator> Target<A> {
 
 /// Follows symbolic links from a name to the plain file or the free name that they lead to. Anything else there is an
 /// error, and so are too many links, a link of /proc to a file without a name, and the name of a new file.
-pub fn find_target<R: rt::Files + Alloc>(
-    looks: &Looks<'_, R>,
-    name: &str,
-) -> Result<Target<R::A>, DiskFault>
+pub fn find_target<R: System>(looks: &Looks<'_, R>, name: &str) -> Result<Target<R::A>, DiskFault>
     ensures named { OnOk result (name.now ≢ []) }
     ensures of_name { IfOk result (λ target. string_bytes target.name ≡ name.now) }
     ensures plain { IfOk result (λ target. IfSome target.old (λ old. bit_and old.mode 0o170000 ≡ 0o100000)) }
@@ -94,7 +91,7 @@ pub fn find_target<R: rt::Files + Alloc>(
 }
 
 /// Returns the path of the new file of a name, if it can be found.
-pub fn new_path_of<R: rt::Files + Alloc>(looks: &Looks<'_, R>, name: &str) -> Option<String<R::A>> {
+pub fn new_path_of<R: System>(looks: &Looks<'_, R>, name: &str) -> Option<String<R::A>> {
     find_target(looks, name).ok()?.new_path(looks.alloc()).ok()
 }
 
@@ -116,7 +113,7 @@ fn target_at<A: Allocator>(
 }
 
 // Follows links by their texts. Returns where the last one leads, and what was seen of the file there.
-fn follow_links<R: rt::Files + Alloc>(
+fn follow_links<R: System>(
     looks: &Looks<'_, R>,
     name: &str,
 ) -> Result<(PathBuf<R::A>, Option<Found>), DiskFault>
@@ -134,10 +131,7 @@ fn follow_links<R: rt::Files + Alloc>(
 }
 
 // Follows one symbolic link.
-fn follow<R: rt::Files + Alloc>(
-    looks: &Looks<'_, R>,
-    path: &mut PathBuf<R::A>,
-) -> Result<(), DiskFault> {
+fn follow<R: System>(looks: &Looks<'_, R>, path: &mut PathBuf<R::A>) -> Result<(), DiskFault> {
     match looks.follow(path.as_str()) {
         Ok(link) => Ok(path.set_file_name(link.as_str())?),
         Err(error) if is_no_text(&error) => Err(DiskFault::Failed(Cause::BadLink)),
@@ -152,11 +146,7 @@ fn is_no_text(error: &io::Error) -> bool {
 
 // Returns whether the system, too, follows `name` to that file, or to none. A link of /proc leads to an open file,
 // even one that no longer has a name.
-fn leads_to<R: rt::Files>(
-    looks: &Looks<'_, R>,
-    name: &str,
-    file: Option<Found>,
-) -> io::Result<bool> {
+fn leads_to<R: System>(looks: &Looks<'_, R>, name: &str, file: Option<Found>) -> io::Result<bool> {
     match (looks.come_to(name), file) {
         (Ok(found), Some(file)) => Ok(is_same_file(&found, &file)),
         (Ok(_), None) => Ok(false),

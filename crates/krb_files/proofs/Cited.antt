@@ -5,13 +5,6 @@ pub use Rattle.std.specs.Prelude.{nat_lt, position, string_bytes, find, Err, sli
 pub use Rattle.std.specs.Str.{bytes_eq}
 pub use Rattle.krb_files.specs.Files.{SetsFile, loaded, CountsFailure, SameFiles, FileMap}
 pub use Rattle.std.specs.List.{prefix_len}
-pub use sound.WpLaws.{WpFn-mono}
-pub use denote.RattleType.{owns}
-pub use denote.Shadow.{pure_i}
-pub use denote.Triple.Entry.{on_entry, alive, Args}
-pub use denote.Triple.Spec.{Meets, triple_of}
-pub use denote.Triple.Table.{entered}
-pub use denote.Triple.Walked.{says, stay_none_slice, Stays, walk_of, Walks, ends_at, walked, Goes-none_slice, walk_Meets}
 pub use Rattle.std.proofs.lemmas.List.{take_all, take-append-le, map-append}
 pub use Rattle.std.proofs.Math.Seq.{take-add}
 pub use Rattle.std.proofs.lemmas.Bool.{true≢false, cases_lt, ltb-true, ltb-false}

@@ -1,6 +1,6 @@
 //! What a save left behind, beside what it returned.
 
-ghost use Rattle.std.specs.Prelude.{◌≡◌};
+ghost use Rattle.std.specs.Prelude.{◌≡◌, Some};
 ghost use Rattle.krb_files.specs.Phrases.{aftermath_phrase};
 
 use std::fmt;
@@ -35,8 +35,6 @@ impl Aftermath {
 }
 
 impl fmt::Display for Aftermath {
-    ghost use Rattle.std.specs.Prelude.{Some};
-
     ghost output = { λ aftermath. Some (aftermath_phrase aftermath) };
 
     fn fmt<W: fmt::Write>(&self, f: &mut fmt::Formatter<W>) -> fmt::Result {

@@ -42,8 +42,6 @@ impl LoadFault {
 }
 
 impl fmt::Display for LoadFault {
-    ghost use Rattle.std.specs.Prelude.{Some};
-
     ghost output = { λ fault. Some (load_phrase fault) };
 
     fn fmt<W: fmt::Write>(&self, f: &mut fmt::Formatter<W>) -> fmt::Result {
@@ -78,8 +76,6 @@ impl SaveFault {
 }
 
 impl fmt::Display for SaveFault {
-    ghost use Rattle.std.specs.Prelude.{Some};
-
     ghost output = { λ fault. Some (save_phrase fault) };
 
     fn fmt<W: fmt::Write>(&self, f: &mut fmt::Formatter<W>) -> fmt::Result {

@@ -4,7 +4,7 @@
 mod aftermath;
 mod cause;
 mod files;
-mod held_name;
+mod log;
 mod mem_files;
 mod node;
 mod output;
@@ -14,7 +14,7 @@ mod watched;
 pub use aftermath::Aftermath;
 pub use cause::Cause;
 pub use files::{Files, LoadFault, SaveFault};
-pub use held_name::HeldName;
+pub use log::Log;
 pub use mem_files::MemFiles;
 pub use node::Node;
 pub use output::{OutFault, put};

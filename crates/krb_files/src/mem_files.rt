@@ -3,11 +3,12 @@
 ghost use Rattle.std.specs.Prelude.{◌≡◌, ◌⊎◌, ◌↔◌, true, None, Some, Ok, IfOk, IfErr, IsErrOf, IsTrue, OnOk, OnErr, option_map, position, string_bytes};
 ghost use Rattle.std.specs.Str.{bytes_eq};
 ghost use Rattle.krb_files.specs.Files.{SetsFile, loaded, node_of};
+ghost use Rattle.krb_files.specs.Log.{last_name};
 ghost use Rattle.krb_files.specs.MemFiles.{Memory, pairs_of, AnswersOf, SavesOf, FaultOf, file_in, with_file, failing_next, after_call, left};
 
 use crate::aftermath::Aftermath;
 use crate::files::{Files, LoadFault, SaveFault};
-use crate::held_name::HeldName;
+use crate::log::Log;
 use crate::node::Node;
 use std::alloc::{AllocError, Allocator};
 use std::marker::Model;
@@ -20,7 +21,7 @@ pub struct MemFiles<A: Allocator> {
     failing: u64,
     failures: u64,
     mode: Option<u32>,
-    held: HeldName,
+    held: Option<Log>,
 }
 
 impl<A: Allocator> Model for MemFiles<A> {
@@ -31,7 +32,7 @@ impl<A: Allocator> Model for MemFiles<A> {
       failing = m.failing;
       failures = m.failures;
       mode = m.mode;
-      held = m.held.name;
+      held = last_name m.held;
     } };
 }
 
@@ -50,7 +51,7 @@ impl<A: Allocator> MemFiles<A> {
             failing: 0,
             failures: 0,
             mode: None,
-            held: HeldName::none(),
+            held: None,
         }
     }
 
@@ -176,13 +177,13 @@ impl<A: Allocator + Copy> Files for MemFiles<A> {
     fn hold(&mut self, name: &str)
         ensures { self.new ≡ record self.old { held = Some name.now } }
     {
-        self.held = HeldName::of(name.as_bytes());
+        self.held = Some(Log::with(&None, name.as_bytes(), &[]));
     }
 
     fn release(&mut self)
         ensures { self.new ≡ left self.old }
     {
-        self.held = HeldName::none();
+        self.held = None;
     }
 
     fn check_hold(&mut self) -> Result<(), SaveFault>
@@ -219,7 +220,7 @@ impl<A: Allocator + Copy> Files for MemFiles<A> {
             (SetsFile (file_in self.old.files) name.now bytes.now (file_in self.new.files)) }
         ensures err { OnErr result (self.new.files ≡ self.old.files) }
     {
-        self.held = HeldName::none();
+        self.held = None;
         if self.fails() {
             return Err(SaveFault::Failed);
         }

@@ -1,6 +1,6 @@
 //! Writes to a watched writer.
 
-ghost use Rattle.std.specs.Prelude.{◌≡◌, [], is_err, OnOk, OnErr, IfErr};
+ghost use Rattle.std.specs.Prelude.{◌≡◌, Some, [], is_err, OnOk, OnErr, IfErr};
 ghost use Rattle.std.specs.Io.KnownBytes.{Appends};
 ghost use Rattle.krb_files.specs.declared.output.OutFault.TheVariants.{NoMemory as OutOfMemory};
 ghost use Rattle.krb_files.specs.Bytes.{AppendsPrefix};
@@ -33,8 +33,6 @@ impl OutFault {
 }
 
 impl fmt::Display for OutFault {
-    ghost use Rattle.std.specs.Prelude.{Some};
-
     ghost output = { λ fault. Some (out_phrase fault) };
 
     fn fmt<W: fmt::Write>(&self, f: &mut fmt::Formatter<W>) -> fmt::Result {

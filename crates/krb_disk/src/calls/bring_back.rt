@@ -6,13 +6,12 @@ ghost use Rattle.krb_disk.specs.Stages.{IsToRestore, recovered, torn_to, unresto
 ghost use Rattle.krb_disk.specs.declared.stage.PlaceStage.TheVariants.{Lengthened, Whole, Mixed, Torn, Refilled, Lacking, Cleared, Trimmed, Left, Lost};
 
 use super::{Calls, PlaceFile, describe};
-use crate::open_file::WriteInPlace;
+use crate::open_file::{HeldFile, System};
 use crate::patch::Patch;
 use crate::read::{Parts, has_bytes};
 use crate::stage::PlaceStage;
 use std::fs::OpenFile;
 use std::io::{self, Read, Seek, SeekFrom};
-use std::rt;
 
 impl<F> PlaceFile<F> {
     /// Returns whether old bytes may have been written over or cut off.
@@ -71,7 +70,7 @@ fn has_old<F: OpenFile + Read + Seek>(file: &mut F, patch: Patch<'_>) -> io::Res
     has_bytes(file, Parts { front, end })
 }
 
-impl<R: rt::Files> Calls<'_, R> {
+impl<R: System> Calls<'_, R> {
     /// Returns whether nothing past the old end is another program's: it may be cut off.
     pub fn owns_end(&self, old: &mut PlaceFile<R::File>, patch: Patch<'_>) -> bool
         ensures { old.new.stage ≡ old.old.stage }
@@ -91,12 +90,7 @@ impl<R: rt::Files> Calls<'_, R> {
         }
         has_old
     }
-}
 
-impl<R: rt::Files> Calls<'_, R>
-where
-    R::File: WriteInPlace,
-{
     /// Writes back the old bytes that may be gone.
     pub fn restore(&self, old: &mut PlaceFile<R::File>, patch: Patch<'_>) -> io::Result<()>
         requires due { IsToRestore old.old.stage }

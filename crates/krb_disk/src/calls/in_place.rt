@@ -1,28 +1,27 @@
 //! The calls of a save in place.
 
-ghost use Rattle.std.specs.Prelude.{◌≡◌, ◌≤◌, ◌⊎◌, ◌∷◌, false, length, nat_lt, IfOk, IsTrue, OnOk, OnErr, Some, string_bytes};
+ghost use Rattle.std.specs.Prelude.{◌≡◌, ◌≤◌, ◌⊎◌, ◌∷◌, false, true, length, nat_lt, IfOk, IsTrue, OnOk, OnErr, Some, string_bytes};
+ghost use Rattle.krb_files.specs.Log.{entries_of};
 ghost use Rattle.krb_disk.specs.Aftermaths.{IsDone};
 ghost use Rattle.krb_disk.specs.Content.{AtEach, CutsIf, IsPatch, Writes};
 ghost use Rattle.krb_disk.specs.Stages.{IsToSync, IsToWatch, IsWatched, WasReadAgain, added, compared_in_place, synced_in_place, unlooked, unsynced, watched_in_place};
 ghost use Rattle.krb_disk.specs.declared.stage.PlaceStage.TheVariants.{Same, Extended, Ready, Overwritten, Cut, Finished, Saved, Whole, Mixed, Torn};
 
-use super::log::Log;
 use super::{Calls, PlaceFile, describe};
 use crate::deadline::Deadline;
 use crate::fault::DiskFault;
 use crate::looks::locks::LockKind;
 use crate::looks::{Found, is_same_file};
-use crate::open_file::WriteInPlace;
+use crate::open_file::{HeldFile, System};
 use crate::patch::Patch;
 use crate::read::{Parts, has_bytes};
 use crate::snapshot::Snapshot;
 use crate::stage::PlaceStage;
 use crate::target::Target;
-use krb_files::{Aftermath, Cause};
+use krb_files::{Aftermath, Cause, Log};
 use std::alloc::Allocator;
 use std::fs::OpenFile;
 use std::io::{self, ErrorKind, Read, Seek};
-use std::rt;
 
 impl<F> PlaceFile<F> {
     /// Nothing is to be written past the old end.
@@ -45,37 +44,44 @@ impl<F> PlaceFile<F> {
     }
 }
 
-impl<R: rt::Files> Calls<'_, R> {
-    /// Returns whether the old file is still at `path`, as it was loaded, or with `end` behind that once it was added.
+// Returns whether that is another file than the open one, as far as the system reports.
+fn is_other_file<F: OpenFile>(file: &F, named: &Found) -> bool {
+    describe(file).is_ok_and(|opened| !is_same_file(named, &opened))
+}
+
+// Returns whether an open file has just these bytes.
+fn has_just<F: Read + Seek>(file: &mut F, bytes: &[u8]) -> io::Result<bool> {
+    file.rewind()?;
+    has_bytes(file, Parts::of(bytes))
+}
+
+impl<R: System> Calls<'_, R> {
+    /// Fails unless the old file is still at `path`, as it was loaded, or with `end` behind that once it was added.
     pub fn compare_in_place<A: Allocator>(
         &self,
         old: &mut PlaceFile<R::File>,
         path: &str,
         snapshot: &Snapshot<A>,
         end: &[u8],
-    ) -> Result<bool, DiskFault>
+    ) -> Result<(), DiskFault>
         requires due { IsWatched old.old.stage }
-        ensures stage { IfOk result (λ is. old.new ≡ record old.old { stage = compared_in_place is old.old.stage }) }
+        ensures ok { OnOk result (old.new ≡ record old.old { stage = compared_in_place true old.old.stage }) }
         ensures err { OnErr result (old.new ≡ record old.old { stage = compared_in_place false old.old.stage }) }
-        ensures bytes { IfOk result (λ is. IsTrue is
-            → WasReadAgain R.File.remaining snapshot.now (added old.old.stage end.now)) }
+        ensures bytes { OnOk result (WasReadAgain R.File.remaining snapshot.now (added old.old.stage end.now)) }
     {
         let was_lengthened = old.stage == PlaceStage::Unlocked;
-        old.stage = if was_lengthened {
-            PlaceStage::Whole
+        let (same, other) = if was_lengthened {
+            (PlaceStage::Ready, PlaceStage::Whole)
         } else {
-            PlaceStage::Untouched
+            (PlaceStage::Same, PlaceStage::Untouched)
         };
+        old.stage = other;
         let end = if was_lengthened { end } else { &[] };
-        let is_same = snapshot.is_at(&self.looks, path, end)?;
-        if is_same {
-            old.stage = if was_lengthened {
-                PlaceStage::Ready
-            } else {
-                PlaceStage::Same
-            };
+        if !snapshot.is_at(&self.looks, path, end)? {
+            return Err(DiskFault::Failed(Cause::Changed));
         }
-        Ok(is_same)
+        old.stage = same;
+        Ok(())
     }
 
     /// Syncs the old file, so that what was written to it survives a crash.
@@ -86,24 +92,13 @@ impl<R: rt::Files> Calls<'_, R> {
     {
         let (done, failed) = match old.stage {
             PlaceStage::Extended => (PlaceStage::Lengthened, PlaceStage::Whole),
+            PlaceStage::Cut => (PlaceStage::Finished, PlaceStage::Torn),
             PlaceStage::Refilled => (PlaceStage::Whole, PlaceStage::Lost),
             _ => (PlaceStage::Back, PlaceStage::Left),
         };
         old.stage = failed;
         old.file.sync_all()?;
         old.stage = done;
-        Ok(())
-    }
-
-    /// Syncs the old file, which has the new bytes.
-    pub fn finish(&self, old: &mut PlaceFile<R::File>) -> io::Result<()>
-        requires due { old.old.stage ≡ Cut }
-        ensures ok { OnOk result (old.new ≡ record old.old { stage = Finished }) }
-        ensures err { OnErr result (old.new ≡ record old.old { stage = Torn }) }
-    {
-        old.stage = PlaceStage::Torn;
-        old.file.sync_all()?;
-        old.stage = PlaceStage::Finished;
         Ok(())
     }
 
@@ -115,9 +110,9 @@ impl<R: rt::Files> Calls<'_, R> {
         bytes: &[u8],
     ) -> Result<(), DiskFault>
         requires due { old.old.stage ≡ Finished }
-        ensures saved { OnOk result (self.new.saved.entries
-            ≡ (string_bytes target.now.name, bytes.now) ∷ self.old.saved.entries) }
-        ensures unsaved { OnErr result (self.new.saved.entries ≡ self.old.saved.entries) }
+        ensures saved { OnOk result (entries_of self.new.saved
+            ≡ (string_bytes target.now.name, bytes.now) ∷ entries_of self.old.saved) }
+        ensures unsaved { OnErr result (entries_of self.new.saved ≡ entries_of self.old.saved) }
         ensures ok { OnOk result (old.new.stage ≡ Saved) }
         ensures err { OnErr result (old.new.stage ≡ Finished) }
     {
@@ -131,26 +126,10 @@ impl<R: rt::Files> Calls<'_, R> {
             _ => {}
         }
         old.stage = PlaceStage::Saved;
-        self.saved = Log::with(&self.saved, target.name().as_bytes(), bytes);
+        self.saved = Some(Log::with(&self.saved, target.name().as_bytes(), bytes));
         Ok(())
     }
-}
 
-// Returns whether that is another file than the open one, as far as the system reports.
-fn is_other_file<F: OpenFile>(file: &F, named: &Found) -> bool {
-    match describe(file) {
-        Ok(opened) => !is_same_file(named, &opened),
-        Err(_) => false,
-    }
-}
-
-// Returns whether an open file has just these bytes.
-fn has_just<F: Read + Seek>(file: &mut F, bytes: &[u8]) -> io::Result<bool> {
-    file.rewind()?;
-    has_bytes(file, Parts::of(bytes))
-}
-
-impl<R: rt::Files> Calls<'_, R> {
     /// Returns what a save left behind that another program wrote to meanwhile: the file does not have just the new bytes.
     pub fn look_after(&self, old: &mut PlaceFile<R::File>, bytes: &[u8]) -> Option<Aftermath>
         ensures done { IsDone result }
@@ -161,12 +140,7 @@ impl<R: rt::Files> Calls<'_, R> {
             _ => Some(Aftermath::Mixed),
         }
     }
-}
 
-impl<R: rt::Files> Calls<'_, R>
-where
-    R::File: WriteInPlace,
-{
     /// Writes the new bytes past the old end.
     pub fn extend(&self, old: &mut PlaceFile<R::File>, patch: Patch<'_>) -> io::Result<()>
         requires due { old.old.stage ≡ Same }
@@ -219,9 +193,7 @@ where
         old.stage = PlaceStage::Cut;
         Ok(())
     }
-}
 
-impl<R: rt::Files + rt::Clock + Alloc> Calls<'_, R> {
     /// Returns whether no program has or awaits a record lock on the old file, not even to read.
     pub fn watch_in_place(
         &self,

@@ -2,39 +2,32 @@
 
 ghost use Rattle.std.specs.Prelude.{◌≡◌, [], ◌∷◌, IfOk, OnOk, OnErr, IsTrue, string_bytes};
 ghost use Rattle.std.specs.Path.{path_buf_bytes};
+ghost use Rattle.krb_files.specs.Log.{entries_of};
 ghost use Rattle.krb_disk.specs.Looks.{IsPlainOrNone};
 ghost use Rattle.krb_disk.specs.NewFile.{IsFilled, new_path};
 ghost use Rattle.krb_disk.specs.Stages.{IsReady, WasReadAgain, watched, snapshot_file};
 ghost use Rattle.krb_disk.specs.declared.stage.Stage.TheVariants.{Ours, Same};
 
-use super::log::Log;
 use super::{Calls, NewFile};
 use crate::deadline::Deadline;
 use crate::fault::DiskFault;
 use crate::looks::Found;
 use crate::looks::device::{Listed, Mounted};
 use crate::looks::locks::{LockKind, is_locked};
+use crate::open_file::System;
 use crate::snapshot::Snapshot;
 use crate::stage::Stage;
 use crate::target::Target;
-use krb_files::Cause;
+use krb_files::{Cause, Log};
 use std::fs::{self, OpenFile};
 use std::io::{self, ErrorKind};
-use std::rt;
 
-impl<R: rt::Files> Calls<'_, R> {
-    /// Returns what is at the path of the old file. A symbolic link is not followed.
-    pub fn see(&self, path: &str) -> io::Result<Option<Found>> {
-        self.looks.look(path)
-    }
-
+impl<R: System> Calls<'_, R> {
     /// Syncs a folder, so that the names in it survive a crash.
     pub fn sync_folder(&self, folder: &str) -> io::Result<()> {
         fs::open(self.rt, folder)?.sync_all()
     }
-}
 
-impl<R: rt::Files + Alloc> Calls<'_, R> {
     /// Returns whether the old file is still as it was seen.
     pub fn compare(
         &self,
@@ -51,7 +44,7 @@ impl<R: rt::Files + Alloc> Calls<'_, R> {
     {
         let is_same = snapshot.is_at(&self.looks, path, &[])?;
         file.stage = if is_same {
-            file.stage.compared()
+            Stage::Same(snapshot.file())
         } else {
             Stage::Lost
         };
@@ -67,9 +60,9 @@ impl<R: rt::Files + Alloc> Calls<'_, R> {
     ) -> Result<(), DiskFault>
         requires ready { IsReady file.old.stage }
         requires filled { IsFilled (new_path (path_buf_bytes target.now.path)) bytes.now file.old }
-        ensures ok { OnOk result (self.new.saved.entries
-            ≡ (string_bytes target.now.name, bytes.now) ∷ self.old.saved.entries) }
-        ensures err { OnErr result (self.new.saved.entries ≡ self.old.saved.entries) }
+        ensures ok { OnOk result (entries_of self.new.saved
+            ≡ (string_bytes target.now.name, bytes.now) ∷ entries_of self.old.saved) }
+        ensures err { OnErr result (entries_of self.new.saved ≡ entries_of self.old.saved) }
     {
         file.stage = Stage::Lost;
         match fs::rename(self.rt, &file.path, target.path()) {
@@ -78,12 +71,10 @@ impl<R: rt::Files + Alloc> Calls<'_, R> {
             }
             renamed => renamed?,
         }
-        self.saved = Log::with(&self.saved, target.name().as_bytes(), bytes);
+        self.saved = Some(Log::with(&self.saved, target.name().as_bytes(), bytes));
         Ok(())
     }
-}
 
-impl<R: rt::Files + rt::Clock + Alloc> Calls<'_, R> {
     /// Returns whether no program has or awaits a lock of that kind on a file.
     pub fn is_quiet(
         &self,
@@ -109,7 +100,11 @@ impl<R: rt::Files + rt::Clock + Alloc> Calls<'_, R> {
             Stage::Synced(Some(old)) => self.is_quiet(&old, listed, LockKind::Record, deadline)?,
             _ => true,
         };
-        file.stage = file.stage.watched(is_quiet);
+        file.stage = match (file.stage, is_quiet) {
+            (Stage::Synced(old), true) => Stage::Quiet(old),
+            (Stage::Synced(old), false) => Stage::Synced(old),
+            _ => Stage::Lost,
+        };
         Ok(is_quiet)
     }
 }

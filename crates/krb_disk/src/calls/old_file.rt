@@ -8,14 +8,13 @@ use crate::fault::{DiskFault, ReadFault};
 use crate::looks::device::Listed;
 use crate::looks::listed::find_listed;
 use crate::looks::{Found, is_same_file};
-use crate::open_file::{Numbered, TakeLock};
+use crate::open_file::{HeldFile, System};
 use crate::read::{Parts, has_bytes, read_open};
 use crate::stage::PlaceStage;
 use krb_files::Cause;
 use std::alloc::Allocator;
 use std::fs::{self, OpenFile, OpenOptions};
 use std::io::{self, ErrorKind, Seek};
-use std::rt;
 
 /// How many bytes may be added to a held file's image before it is reallocated.
 const ROOM_TO_GROW: u64 = 131_072;
@@ -58,31 +57,22 @@ impl<F: Drop> OldFile<F> {
 }
 
 // Returns a handle that is no standard stream: the handle that was opened may be, where one is closed.
-fn off_the_streams<F: OpenFile + Numbered + Drop>(file: F) -> io::Result<F> {
+fn off_the_streams<F: OpenFile + HeldFile + Drop>(file: F) -> io::Result<F> {
     if file.number() > 2 {
         return Ok(file);
     }
     file.try_clone()
 }
 
-fn open_to_read<R: rt::Files>(rt: &R, path: &str) -> io::Result<R::File>
-where
-    R::File: Numbered,
-{
+fn open_to_read<R: System>(rt: &R, path: &str) -> io::Result<R::File> {
     off_the_streams(fs::open(rt, path)?)
 }
 
-fn open_to_write<R: rt::Files>(rt: &R, path: &str) -> io::Result<R::File>
-where
-    R::File: Numbered,
-{
+fn open_to_write<R: System>(rt: &R, path: &str) -> io::Result<R::File> {
     off_the_streams(OpenOptions::new().read(true).write(true).open(rt, path)?)
 }
 
-impl<R: rt::Files> Calls<'_, R>
-where
-    R::File: Numbered,
-{
+impl<R: System> Calls<'_, R> {
     /// Opens the old file, and so that it can be saved in place, if it is to be and that is allowed.
     pub fn open_old(&self, path: &str, in_place: bool) -> io::Result<OldFile<R::File>> {
         if !in_place {
@@ -96,9 +86,7 @@ where
             }
         }
     }
-}
 
-impl<R: rt::Files> Calls<'_, R> {
     /// Returns what the system reports of the old file, if it is still at `path`.
     pub fn find_old(&self, old: &OldFile<R::File>, path: &str) -> io::Result<Option<Found>> {
         let opened = describe(&old.file)?;
@@ -135,12 +123,7 @@ impl<R: rt::Files> Calls<'_, R> {
         }
         matches!(has_bytes(&mut old.file, Parts::of(bytes)), Ok(false))
     }
-}
 
-impl<R: rt::Files> Calls<'_, R>
-where
-    R::File: TakeLock + Numbered,
-{
     // Locks the old file by a handle that writes, for file systems that lock no other.
     fn lock_to_write(&self, path: &str) -> io::Result<Option<R::File>> {
         let file = open_to_write(self.rt, path)?;
@@ -168,12 +151,7 @@ where
             }
         }
     }
-}
 
-impl<R: rt::Files + Alloc> Calls<'_, R>
-where
-    R::File: Numbered,
-{
     /// Finds out how the locks of the old file may be listed.
     pub fn find_listed(&self, old: &mut OldFile<R::File>) -> Result<(), DiskFault>
         ensures { old.new.is_guarded ≡ old.old.is_guarded }

@@ -6,10 +6,9 @@ ghost use Rattle.krb_disk.specs.Looks.{MayBeLeft};
 use super::{Calls, describe, is_at_path};
 use crate::looks::Found;
 use crate::looks::users::Users;
-use crate::open_file::TakeLock;
+use crate::open_file::{HeldFile, System};
 use std::fs::{self, OpenOptions};
 use std::io::{self, ErrorKind};
-use std::rt;
 
 /// An open file found at the path of the new file.
 #[derive(Drop)]
@@ -21,16 +20,7 @@ pub struct StaleFile<'p, F> {
     found: Option<Found>,
 }
 
-// Opens what may be a stale file: for writing, since the open then does not block on a pipe put there meanwhile, and
-// some file systems lock no other handle; for reading if its owner may not write.
-fn open_stale_file<R: rt::Files>(rt: &R, path: &str) -> io::Result<R::File> {
-    match OpenOptions::new().read(true).write(true).open(rt, path) {
-        Err(error) if error.kind() == ErrorKind::PermissionDenied => fs::open(rt, path),
-        opened => opened,
-    }
-}
-
-impl<R: rt::Files> Calls<'_, R> {
+impl<R: System> Calls<'_, R> {
     /// Returns whether a killed run left the open file: it is not one that this run loaded.
     pub fn is_abandoned(&self, file: &mut StaleFile<'_, R::File>, users: Users) -> io::Result<bool>
         requires { file.old.is_locked ≡ true }
@@ -54,17 +44,21 @@ impl<R: rt::Files> Calls<'_, R> {
     {
         fs::remove_file(self.rt, file.path)
     }
-}
 
-impl<R: rt::Files> Calls<'_, R>
-where
-    R::File: TakeLock,
-{
-    /// Opens what is at the path of the new file.
+    /// Opens what is at the path of the new file: for writing, since the open then does not block on a pipe put there
+    /// meanwhile, and some file systems lock no other handle; for reading if its owner may not write.
     pub fn open_stale_file<'p>(&self, path: &'p str) -> io::Result<StaleFile<'p, R::File>> {
+        let file = match OpenOptions::new()
+            .read(true)
+            .write(true)
+            .open(self.rt, path)
+        {
+            Err(error) if error.kind() == ErrorKind::PermissionDenied => fs::open(self.rt, path)?,
+            opened => opened?,
+        };
         Ok(StaleFile {
             path,
-            file: open_stale_file(self.rt, path)?,
+            file,
             is_locked: false,
             found: None,
         })

@@ -12,17 +12,13 @@ use crate::fault::{DiskFault, ReadFault, Unsaved};
 use crate::held::{Held, NotHeld, save_anew};
 use crate::looks::Found;
 use crate::looks::text::check_len;
-use crate::open_file::{Numbered, SetOwner, TakeLock, WriteInPlace};
+use crate::open_file::System;
 use crate::read::{read_file, refuse_others};
 use crate::target::new_path_of;
-use krb_files::{Aftermath, Cause, HeldName};
+use krb_files::{Aftermath, Cause, Log};
 use std::alloc::Allocator;
-use std::rt;
 
-impl<R: rt::Files + rt::Clock + Alloc> DiskFiles<'_, R>
-where
-    R::File: SetOwner + TakeLock + Numbered + WriteInPlace,
-{
+impl<R: System> DiskFiles<'_, R> {
     /// Reads a file: through the hold, if one is held. If only plain files are loaded it is looked at before it is opened,
     /// and again afterwards.
     pub(super) fn read<A: Allocator>(
@@ -55,7 +51,7 @@ where
         requires { IfOk hold (λ held. name_of held ≡ name.now) }
         ensures { self.new ≡ record self.old { held = Some name.now; is_held = is_ok hold } }
     {
-        self.held_name = HeldName::of(name.as_bytes());
+        self.held_name = Some(Log::with(&None, name.as_bytes(), &[]));
         self.hold = Some(hold);
     }
 
@@ -63,7 +59,7 @@ where
     pub(super) fn take_hold(&mut self) -> Result<Option<Held<R>>, DiskFault>
         ensures { self.new ≡ left self.old }
     {
-        self.held_name = HeldName::none();
+        self.held_name = None;
         match self.hold.take() {
             Some(Ok(held)) => Ok(Some(held)),
             Some(Err(not_held)) => Err(not_held.why),
@@ -85,7 +81,9 @@ where
     {
         let held = self.take_hold()?;
         if let Err(fault) = check_len(self.calls.looks(), bytes.len()) {
-            release(&self.calls, held);
+            if let Some(held) = held {
+                held.release(&self.calls);
+            }
             return Err(Unsaved::from(fault));
         }
         match held {
@@ -102,15 +100,5 @@ where
             DiskFault::Failed(Cause::InTheWay) => new_path_of(self.calls.looks(), name),
             _ => None,
         };
-    }
-}
-
-/// Ends a hold, if there is one.
-pub(super) fn release<R: rt::Files + rt::Clock + Alloc>(calls: &Calls<'_, R>, held: Option<Held<R>>)
-where
-    R::File: SetOwner + TakeLock + Numbered + WriteInPlace,
-{
-    if let Some(held) = held {
-        held.release(calls);
     }
 }

@@ -7,21 +7,18 @@ ghost use Rattle.krb_disk.specs.Stages.{HasFailed, IsAftermath};
 ghost use Rattle.krb_disk.specs.declared.stage.PlaceStage.TheVariants.{Whole, Mixed, Torn, Refilled, Lacking, Back, Left, Lost};
 
 use crate::calls::{Calls, PlaceFile};
-use crate::open_file::WriteInPlace;
+use crate::open_file::System;
 use crate::patch::Patch;
 use krb_files::Aftermath;
 use std::io::{self, ErrorKind};
-use std::rt;
 
 // Writes back the old bytes that may be gone, but where each is there. If they have no room, the file is cut to its old
 // length before.
-fn write_back<R: rt::Files>(
+fn write_back<R: System>(
     calls: &Calls<'_, R>,
     file: &mut PlaceFile<R::File>,
     patch: Patch<'_>,
 ) -> io::Result<()>
-where
-    R::File: WriteInPlace,
     requires torn { (file.old.stage ≡ Mixed) ⊎ (file.old.stage ≡ Torn) }
     requires patch { IsPatch patch.before.now patch.after.now patch.first patch.last }
     ensures ok { OnOk result (file.new.stage ≡ Refilled) }
@@ -48,13 +45,11 @@ fn has_no_room(error: &io::Error) -> bool {
 }
 
 // The same, and syncs them.
-fn put_back<R: rt::Files>(
+fn put_back<R: System>(
     calls: &Calls<'_, R>,
     file: &mut PlaceFile<R::File>,
     patch: Patch<'_>,
 ) -> io::Result<()>
-where
-    R::File: WriteInPlace,
     requires torn { (file.old.stage ≡ Mixed) ⊎ (file.old.stage ≡ Torn) }
     requires patch { IsPatch patch.before.now patch.after.now patch.first patch.last }
     ensures ok { OnOk result (file.new.stage ≡ Whole) }
@@ -65,13 +60,11 @@ where
 }
 
 // Cuts the file to its old length, and syncs it.
-fn trim<R: rt::Files>(
+fn trim<R: System>(
     calls: &Calls<'_, R>,
     file: &mut PlaceFile<R::File>,
     patch: Patch<'_>,
 ) -> io::Result<()>
-where
-    R::File: WriteInPlace,
     requires { file.old.stage ≡ Whole }
     ensures ok { OnOk result (file.new.stage ≡ Back) }
     ensures err { OnErr result (file.new.stage ≡ Left) }
@@ -82,13 +75,11 @@ where
 
 /// Brings the old bytes back after a failure, and returns what it has left. What another program wrote past the old end
 /// stays.
-pub fn bring_back<R: rt::Files>(
+pub fn bring_back<R: System>(
     calls: &Calls<'_, R>,
     file: &mut PlaceFile<R::File>,
     patch: Patch<'_>,
 ) -> Option<Aftermath>
-where
-    R::File: WriteInPlace,
     requires failed { HasFailed file.old.stage }
     requires patch { IsPatch patch.before.now patch.after.now patch.first patch.last }
     ensures exact { IsAftermath file.new.stage result }

@@ -4,6 +4,7 @@ use crate::fault::DiskFault;
 use crate::looks::Looks;
 use crate::looks::device::{Device, Listed};
 use crate::looks::text::{read_text, value_of};
+use crate::open_file::System;
 use std::{rt, str};
 
 /// Where the system reports the mount and the inode of an open file, by its descriptor, in lines such as `mnt_id: 25`
@@ -26,26 +27,17 @@ fn device_of(line: &[u8], mount: &str) -> Option<Device> {
 
 // Returns the device of a mount in the list.
 fn find_device(list: &[u8], mount: &str) -> Option<Device> {
-    for line in list.split(|byte| *byte == b'\n') {
-        if let Some(device) = device_of(line, mount) {
-            return Some(device);
-        }
-    }
-    None
+    list.split(|byte| *byte == b'\n')
+        .find_map(|line| device_of(line, mount))
 }
 
 // Returns the device of the mount that the text of an open file names, if the system reports it.
-fn mount_device<R: rt::Files + Alloc>(
-    looks: &Looks<'_, R>,
-    file: &[u8],
-) -> Result<Option<Device>, DiskFault> {
+fn mount_device<R: System>(looks: &Looks<'_, R>, file: &[u8]) -> Result<Option<Device>, DiskFault> {
     let Some(mount) = value_of(file, "mnt_id:") else {
         return Ok(None);
     };
-    match read_text(looks, MOUNTS)? {
-        Some(list) => Ok(find_device(&list, mount)),
-        None => Ok(None),
-    }
+    let mounts = read_text(looks, MOUNTS)?;
+    Ok(mounts.and_then(|list| find_device(&list, mount)))
 }
 
 // Returns the inode in the text of an open file.
@@ -54,10 +46,7 @@ fn inode_of(file: &[u8]) -> Option<u64> {
 }
 
 /// Returns how the locks of the open file with that descriptor may be listed, as far as the system reports it.
-pub fn find_listed<R: rt::Files + Alloc>(
-    looks: &Looks<'_, R>,
-    number: i32,
-) -> Result<Listed, DiskFault> {
+pub fn find_listed<R: System>(looks: &Looks<'_, R>, number: i32) -> Result<Listed, DiskFault> {
     let path = format!(in looks.alloc(); "{OPEN_FILES}{number}")?;
     match read_text(looks, &path)? {
         Some(file) => Ok(Listed {

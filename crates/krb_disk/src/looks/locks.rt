@@ -4,6 +4,7 @@ use crate::deadline::Deadline;
 use crate::fault::DiskFault;
 use crate::looks::Looks;
 use crate::looks::device::{Mounted, Place};
+use crate::open_file::System;
 use krb_files::{LoadFault, WatchedReader, append_read};
 use krb_wire::USUAL_LIMIT;
 use std::{rt, str};
@@ -49,10 +50,7 @@ impl LockKind {
 
 // Returns whether a word is, or may be, the place of that file.
 fn is_place(word: &str, file: &Mounted) -> bool {
-    match Place::parse(word) {
-        Some(place) => file.is_at(place),
-        None => false,
-    }
+    Place::parse(word).is_some_and(|place| file.is_at(place))
 }
 
 // Returns whether a line is a lock of that kind on that file, taken or awaited.
@@ -73,7 +71,7 @@ fn has_lock(list: &[u8], kind: LockKind, file: &Mounted) -> bool {
 
 // Reads the list from scratch into `list`. Returns whether its end, or a read that failed, came before the deadline
 // and within `MOST_BYTES`. A list that cannot be opened has no locks.
-fn read_list<R: rt::Files + rt::Clock + Alloc>(
+fn read_list<R: System>(
     looks: &Looks<'_, R>,
     list: &mut Vec<u8, R::A>,
     deadline: &Deadline,
@@ -99,7 +97,7 @@ fn read_list<R: rt::Files + rt::Clock + Alloc>(
 
 /// Returns whether a program has or awaits a lock of that kind on the file, as far as the system reports.
 /// If that is not known by the deadline, returns true.
-pub fn is_locked<R: rt::Files + rt::Clock + Alloc>(
+pub fn is_locked<R: System>(
     looks: &Looks<'_, R>,
     file: &Mounted,
     kind: LockKind,

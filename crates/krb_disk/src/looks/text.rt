@@ -2,13 +2,14 @@
 
 use crate::fault::{DiskFault, ReadFault};
 use crate::looks::Looks;
+use crate::open_file::System;
 use crate::read::read_file;
 use krb_files::Cause;
 use krb_wire::USUAL_LIMIT;
 use std::{rt, str};
 
 /// Reads the text at `path`. Returns `None` if it cannot be read.
-pub fn read_text<R: rt::Files + Alloc>(
+pub fn read_text<R: System>(
     looks: &Looks<'_, R>,
     path: &str,
 ) -> Result<Option<Vec<u8, R::A>>, DiskFault> {
@@ -21,12 +22,12 @@ pub fn read_text<R: rt::Files + Alloc>(
 
 /// Returns what follows `label` in the first line of a text that begins with it, without blanks around.
 pub fn value_of<'a>(text: &'a [u8], label: &str) -> Option<&'a str> {
-    for line in str::from_utf8(text).ok()?.lines() {
-        if let Some(value) = line.strip_prefix(label) {
-            return Some(value.trim_ascii());
-        }
-    }
-    None
+    let mut lines = str::from_utf8(text).ok()?.lines();
+    Some(
+        lines
+            .find_map(|line| line.strip_prefix(label))?
+            .trim_ascii(),
+    )
 }
 
 /// Where the system reports the limits of this process, one a line, such as `Max file size  4096  unlimited  bytes`:
@@ -40,7 +41,7 @@ fn most_bytes(limits: &[u8]) -> Option<u64> {
 }
 
 /// Fails if a file may not be so long: the system would end this process amid the write.
-pub fn check_len<R: rt::Files + Alloc>(looks: &Looks<'_, R>, len: usize) -> Result<(), DiskFault> {
+pub fn check_len<R: System>(looks: &Looks<'_, R>, len: usize) -> Result<(), DiskFault> {
     let Some(limits) = read_text(looks, LIMITS)? else {
         return Ok(());
     };

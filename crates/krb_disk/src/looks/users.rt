@@ -4,7 +4,7 @@ ghost use Rattle.std.specs.Prelude.{◌↔◌, IsTrue};
 ghost use Rattle.krb_disk.specs.Looks.{MayBeLeft};
 
 use crate::looks::{Found, Looks};
-use std::rt;
+use crate::open_file::System;
 
 /// Where the system reports which user runs this program.
 const THIS_PROCESS: &str = "/proc/self";
@@ -18,11 +18,9 @@ pub struct Users {
 
 impl Users {
     /// Returns the owner of the file to be changed, and the user who runs this program, if the system reports it.
-    pub fn of_run<R: rt::Files>(looks: &Looks<'_, R>, owner: Option<u32>) -> Users {
-        let this = match looks.come_to(THIS_PROCESS) {
-            Ok(process) => Some(process.owner),
-            Err(_) => None,
-        };
+    pub fn of_run<R: System>(looks: &Looks<'_, R>, owner: Option<u32>) -> Users {
+        let process = looks.come_to(THIS_PROCESS).ok();
+        let this = process.map(|process| process.owner);
         Users { owner, this }
     }
 

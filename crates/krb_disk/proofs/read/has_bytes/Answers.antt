@@ -1,4 +1,5 @@
-use Rattle.krb_disk.proofs.ForAnswers.{◌<◌, ◌++◌, length, take, rules, had_both, had_none}
+use Rattle.std.proofs.Common.{◌<◌, ◌++◌, length, take, rules}
+use Rattle.krb_disk.proofs.Pieces.{had_both, had_none}
 use Rattle.krb_disk.proofs.read.has_bytes.Goals as goal
 
 pub loop-init : goal.loop-init

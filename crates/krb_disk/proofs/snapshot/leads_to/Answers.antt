@@ -1,4 +1,5 @@
-use Rattle.krb_disk.proofs.ForAnswers.{◌++◌, ◌≡◌, as_read}
+use Rattle.std.proofs.Common.{◌++◌, ◌≡◌}
+use Rattle.krb_disk.proofs.Pieces.{as_read}
 use Rattle.krb_disk.proofs.snapshot.leads_to.Goals as goal
 
 -- that of the file that was opened

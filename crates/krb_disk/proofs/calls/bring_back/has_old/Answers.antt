@@ -1,4 +1,5 @@
-use Rattle.krb_disk.proofs.ForAnswers.{◌≡◌, ◌++◌, as_read}
+use Rattle.std.proofs.Common.{◌≡◌, ◌++◌}
+use Rattle.krb_disk.proofs.Pieces.{as_read}
 use Rattle.krb_disk.specs.Content.{Begins}
 use Rattle.krb_disk.proofs.calls.bring_back.has_old.Goals as goal
 

@@ -1,5 +1,27 @@
 -- `with` makes a value of no bytes, at the list with one more entry.
-use Rattle.krb_disk.proofs.ForAnswers.{refl, [], ◌∷◌, Ura, Val, vptr, vstruct, vnil, SProp, ent, emp, via, fst∗, Memory, Routine, Calls, Loops, WpFn, Tables, Logic, Fun, WpFn-mono, ‵, raw, ◌$◌, ◌∵◌, !, qed, move, suffices, done, no_more, returns, enter, agg, alloc_all, pass_all, free_all, look_at, sets, owns, pure_i, on_entry, alive, Args, Meets, triple_of, entered, says, stay_none_ref, stay_none_slice, Stays, walk_of, Walks, ends_at, walked, Goes-none_ref, Goes-none_slice, walk_Meets, ◌<◌, ◌^◌, length}
+use mathlib.Core.Path.{refl}
+use mathlib.Core.List.{[], ◌∷◌}
+use seplogic.Ra.Ura.{Ura}
+use mir.Val.{Val, vptr, vstruct, vnil}
+use base.Logic.{SProp, ent, emp, via, fst∗}
+use prog.Memory.{Memory}
+use prog.Routine.{Routine}
+use prog.Wp.{Calls, Loops, WpFn, Tables}
+use types.Logic.{Logic}
+use contract.Monad.{Fun}
+use types.Kit.{‵, raw, ◌$◌, ◌∵◌, !, qed, move, suffices, done}
+use types.Run.{no_more, returns, enter}
+use types.Part.{agg}
+use types.ByLocal.{alloc_all, pass_all, free_all, look_at, sets}
+use sound.WpLaws.{WpFn-mono}
+use denote.RattleType.{owns}
+use denote.Shadow.{pure_i}
+use denote.Triple.Entry.{on_entry, alive, Args}
+use denote.Triple.Spec.{Meets, triple_of}
+use denote.Triple.Table.{entered}
+use denote.Triple.Walked.{says, stay_none_ref, stay_none_slice, Stays, walk_of, Walks, ends_at, walked, Goes-none_ref, Goes-none_slice, walk_Meets}
+use Rattle.std.proofs.Common.{◌<◌, ◌^◌, length}
+use Rattle.std.specs.contracts.option.Option.{the_row as option_of}
 use mir.Syntax.{named}
 use base.Fml.{Fml}
 use contract.Lifetimes.{Lfts, Shares}
@@ -9,14 +31,15 @@ use denote.Exit.{yes}
 use denote.Ref.{shr_vals, shr_Tells}
 use denote.Signature.{plain, types_at}
 use denote.Slice.{slice_val, shr_slice_vals, shr_slice_Tells}
-use Rattle.krb_disk.specs.contracts.calls.log.Log.with.Key.{name as key}
-use Rattle.krb_disk.specs.contracts.calls.log.Log.with as f
-use Rattle.krb_disk.proofs.calls.log.Log.with.Statement as stated
-use Rattle.krb_disk.proofs.calls.log.Log.with.Code as code
-use Rattle.krb_disk.specs.contracts.calls.log.Log as made
+use Rattle.krb_files.specs.contracts.log.Log.with.Key.{name as key}
+use Rattle.krb_files.specs.contracts.log.Log.with as f
+use Rattle.krb_files.proofs.log.Log.with.Statement as stated
+use Rattle.krb_files.proofs.log.Log.with.Code as code
+use Rattle.krb_files.specs.contracts.log.Log as made
+use Rattle.krb_files.specs.Log.{entries_of}
 
 abbrev stayed : Stays (f.ended).signature.params (f.ended).kept
-stayed = (stay_none_ref (0 ∷ []) tt (plain (λ _. made.the_row)) yes, (stay_none_slice (1 ∷ []) tt (plain (λ _. u8)) yes, (stay_none_slice (2 ∷ []) tt (plain (λ _. u8)) yes, tt)))
+stayed = (stay_none_ref (0 ∷ []) tt (plain (λ _. option_of made.the_row)) yes, (stay_none_slice (1 ∷ []) tt (plain (λ _. u8)) yes, (stay_none_slice (2 ∷ []) tt (plain (λ _. u8)) yes, tt)))
 
 module _ {M : Type 1} {𝓤 : Ura M} (𝓛 : Logic 𝓤) (mem : Memory → SProp 𝓤) (run : Routine → Fun 𝓤) (C : Calls 𝓤 𝓛.H) (Λ : Loops 𝓤 𝓛.H) where
   open 𝓛 use {H}
@@ -38,7 +61,7 @@ module _ {M : Type 1} {𝓤 : Ura M} (𝓛 : Logic 𝓤) (mem : Memory → SProp
     passed = owns (types_at f.signature.params κs) a (before ∷ [], (name ∷ [], (bytes ∷ [], tt)))
 
     abbrev log : (made.the_row).Denot
-    log = record { entries = (a.1.0.now, a.1.1.0.now) ∷ a.0.now.entries }
+    log = record { entries = (a.1.0.now, a.1.1.0.now) ∷ entries_of a.0.now }
 
     walk : length a.1.0.now < 2 ^ 64 → length a.1.1.0.now < 2 ^ 64 → ent 𝓤 (on_entry 𝓛 f.signature κs qs a (before ∷ [], (name ∷ [], (bytes ∷ [], tt))))
         (WpFn 𝓤 H C Λ code.function (before ∷ name ∷ bytes ∷ []) ((walk_of 𝓛 f.ended stayed (f.clauses 𝓛 mem run)).post bound))
@@ -53,13 +76,13 @@ module _ {M : Type 1} {𝓤 : Ura M} (𝓛 : Logic 𝓤) (mem : Memory → SProp
   walks : Walks 𝓛 f.ended stayed (WpFn 𝓤 H C Λ code.function) (f.clauses 𝓛 mem run)
   walks =
       walked 𝓛 f.ended stayed (f.clauses 𝓛 mem run) (WpFn 𝓤 H C Λ code.function) (λ κs. (shr_vals, (shr_slice_vals, (shr_slice_vals, tt))))
-      (λ κs. (shr_Tells (named 0) κs.0 made.the_row, (shr_slice_Tells (named 1) κs.1.0 u8, (shr_slice_Tells (named 2) κs.1.1.0 u8, tt))))
+      (λ κs. (shr_Tells (named 0) κs.0 (option_of made.the_row), (shr_slice_Tells (named 1) κs.1.0 u8, (shr_slice_Tells (named 2) κs.1.1.0 u8, tt))))
       (λ κs qs bounds a g are. via 𝓤 _ (fst∗ 𝓤 _ (emp 𝓤)) (walk κs qs a are.1.0.0.1.0 are.1.1.0.0.1.0))
 
 meets : {M : Type 1} {𝓤 : Ura M} (𝓛 : Logic 𝓤) (mem : Memory → SProp 𝓤) (run : Routine → Fun 𝓤) (𝓣 : Tables 𝓤 𝓛.H)
     → Meets 𝓛 f.signature (WpFn 𝓤 𝓛.H 𝓣.C 𝓣.Λ code.function) (f.spec 𝓛 mem run)
 meets {𝓤 = 𝓤} 𝓛 mem run 𝓣 =
-    walk_Meets 𝓛 f.ended stayed (Goes-none_ref 𝓛 3 (0 ∷ []) tt (plain (λ _. made.the_row)) yes, (Goes-none_slice 𝓛 3 (1 ∷ []) tt (plain (λ _. u8)) yes, (Goes-none_slice 𝓛 3 (2 ∷ []) tt (plain (λ _. u8)) yes, tt))) (f.clauses 𝓛 mem run) (WpFn 𝓤 𝓛.H 𝓣.C 𝓣.Λ code.function)
+    walk_Meets 𝓛 f.ended stayed (Goes-none_ref 𝓛 3 (0 ∷ []) tt (plain (λ _. option_of made.the_row)) yes, (Goes-none_slice 𝓛 3 (1 ∷ []) tt (plain (λ _. u8)) yes, (Goes-none_slice 𝓛 3 (2 ∷ []) tt (plain (λ _. u8)) yes, tt))) (f.clauses 𝓛 mem run) (WpFn 𝓤 𝓛.H 𝓣.C 𝓣.Λ code.function)
     (WpFn-mono 𝓤 𝓛.H 𝓛.laws 𝓣 code.function) (walks 𝓛 mem run 𝓣.C 𝓣.Λ)
 
 pub with_spec : {M : Type 1} → stated.statement M
