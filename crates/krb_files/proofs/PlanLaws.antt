@@ -1,5 +1,5 @@
 -- The outcomes of plans over honest files.
-use Rattle.krb_files.proofs.Cited.{◌≡◌, ◌⊎◌, inl, inr, ◌∙◌, ℕ, ◌<◌, ◌≤◌, ◌^◌, ◌-◌, Bool, true, false, List, [], ◌∷◌, Option, None, Some, length, refl, sym, ap, subst, cond, arith, Ok, Err, if◌then◌else◌, nat_lt, bytes_eq, FileMap, SameFiles, SetsFile, CountsFailure, loaded, true≢false, cases_lt, bytes_eq-Decides}
+use Rattle.krb_files.proofs.Cited.{◌≡◌, ◌⊎◌, inl, inr, ◌∙◌, ℕ, ◌≤◌, Bool, true, false, List, [], ◌∷◌, Option, None, Some, refl, sym, ap, subst, arith, Err, FileMap, SameFiles, SetsFile, CountsFailure, loaded, bytes_eq-Decides}
 use Rattle.krb_files.specs.declared.files.LoadFault.TheVariants as load
 use Rattle.krb_files.specs.declared.files.Files.{Ghosts}
 use Rattle.krb_files.specs.Loading.{Answer, LoadsFile, TurnsHold, most_bytes}
@@ -11,30 +11,21 @@ pub same-trans : (first second third : FileMap) → SameFiles first second → S
 same-trans first second third same then_ name = then_ name ∙ same name
 
 -- the files after a save are `with_bytes` of those before
-with_bytes-cond : (b : Bool) (files files' : FileMap) (name bytes other : List ℕ) → bytes_eq other name ≡ b → SetsFile files name bytes files' → files' other ≡ cond b (Some bytes) (files other)
-with_bytes-cond true files files' name bytes other e sets = ap files' ((bytes_eq-Decides other name).0 e) ∙ sets.this
-with_bytes-cond false files files' name bytes other e sets = sets.others other (λ same. true≢false (sym ((bytes_eq-Decides other name).1 same) ∙ e))
-
 pub with_bytes-set : (before files files' : FileMap) (name bytes : List ℕ) → SameFiles before files → SetsFile files name bytes files' → SameFiles (with_bytes before name bytes) files'
 with_bytes-set before files files' name bytes same sets other =
-    with_bytes-cond (bytes_eq other name) files files' name bytes other refl sets ∙ ap (λ (x : Option (List ℕ)). cond (bytes_eq other name) (Some bytes) x) (same other)
-
-count-at : (a b c : ℕ) → (a < b) ⊎ (b ≤ a) → a ≤ b → b ≤ c → b ≡ 2 ^ 64 - 1 → CountsFailure a c
-count-at a b c (inl lt) le le' is = inl (omega (arith, le', lt))
-count-at a b c (inr ge) le le' is = inr (omega (arith, le, ge, is))
+    let is = bytes_eq-Decides other name in
+    let was = same other in
+    let this = sets.this in
+    let others = sets.others other in
+    grind arith
 
 -- a failure counted in the second of two steps is counted in both
 pub count-trans : (a b c : ℕ) → a ≤ b → b ≤ c → CountsFailure b c → CountsFailure a c
-count-trans a b c le le' (inl lt) = inl (omega (arith, le, lt))
-count-trans a b c le le' (inr is) = count-at a b c (cases_lt a b) le le' is
+count-trans a b c le le' counted = grind arith
 
-count-more-at : (a b c : ℕ) → b ≤ c → (a < b) ⊎ (a ≡ 2 ^ 64 - 1) → CountsFailure a c
-count-more-at a b c le (inl lt) = inl (omega (arith, le, lt))
-count-more-at a b c le (inr is) = inr is
-
--- a failure counted in the first step is counted in both
+-- and so is one that is counted in the first
 pub count-more : (a b c : ℕ) → b ≤ c → CountsFailure a b → CountsFailure a c
-count-more a b c le counted = count-more-at a b c le counted
+count-more a b c le counted = grind arith
 
 module _ {F R : Type 0} (trait : Ghosts F) (faults : Faults R) where
   -- loads keep honest files honest and unchanged, and never lower the count of failures
@@ -67,10 +58,8 @@ module _ {F R : Type 0} (trait : Ghosts F) (faults : Faults R) where
   held-lasts false name old new is = lasts-none old new is
 
   pub leaves-lasts : (plan : Plan R) (old new : F) → Leaves trait plan old new → Lasts old new
-  leaves-lasts (Ends r) old new is = lasts-none old new is
   leaves-lasts (Holds true name plan) old new turns = turn-lasts None old new turns
-  leaves-lasts (Holds false name plan) old new is = lasts-none old new is
-  leaves-lasts (Loads name then_) old new is = lasts-none old new is
+  leaves-lasts _ old new is = lasts-none old new is
 
   pub loaded-lasts : (plan : Plan R) (old : F) (answers : List Answer) (new : F) → Loaded trait plan old answers new → Lasts old new
   loaded-lasts (Ends r) old answers new l = lasts-none old new l.1
@@ -96,20 +85,13 @@ module _ {F R : Type 0} (trait : Ghosts F) (faults : Faults R) where
       ⊎ ((CountsFailure (trait.failure_count old) (trait.failure_count new) × ((name : List ℕ) × (came ≡ faults.unread name)))
       ⊎ ((name : List ℕ) × (came ≡ faults.spent name)))
 
-  by-large : (name : List ℕ) (then_ : Answer → Plan R) (answers : List Answer) (bytes : List ℕ) (b : Bool)
-      → by faults (Loads name then_) ((if b then Err load.TooLarge else Ok bytes) ∷ answers) ≡ by faults (then_ (if b then Err load.TooLarge else Ok bytes)) answers
-  by-large name then_ answers bytes true = refl
-  by-large name then_ answers bytes false = refl
-
   -- the result of a load that does not fail does not end a plan
   by-loaded : (name : List ℕ) (then_ : Answer → Plan R) (answers : List Answer) (x : Option (List ℕ)) → by faults (Loads name then_) (loaded x most_bytes ∷ answers) ≡ by faults (then_ (loaded x most_bytes)) answers
   by-loaded name then_ answers None = refl
-  by-loaded name then_ answers (Some bytes) = by-large name then_ answers bytes (nat_lt most_bytes (length bytes))
+  by-loaded name then_ answers (Some bytes) = grind arith
 
   comes-later : (due came : R) (old between new : F) → trait.failure_count old ≤ trait.failure_count between → trait.failure_count between ≤ trait.failure_count new → Comes due between new came → Comes due old new came
-  comes-later due came old between new le le' (inl is) = inl is
-  comes-later due came old between new le le' (inr (inl failed)) = inr (inl (count-trans (trait.failure_count old) (trait.failure_count between) (trait.failure_count new) le le' failed.0, failed.1))
-  comes-later due came old between new le le' (inr (inr spent)) = inr (inr spent)
+  comes-later due came old between new le le' comes = grind (arith, count-trans)
 
   comes-loaded : (name : List ℕ) (then_ : Answer → Plan R) (before : FileMap) (old between new : F) (answer : Answer) (answers : List Answer) → trait.is_honest old → SameFiles before (trait.file old)
       → LoadsFile trait old name answer between → Loaded trait (then_ answer) between answers new
@@ -117,10 +99,10 @@ module _ {F R : Type 0} (trait : Ghosts F) (faults : Faults R) where
       → (answer ≡ Err load.Failed) ⊎ (answer ≡ Err load.NoMemory) ⊎ (answer ≡ loaded (trait.file old name) most_bytes)
       → Comes (follow before (Loads name then_)) old new (by faults (Loads name then_) (answer ∷ answers))
   comes-loaded name then_ before old between new answer answers h same loads l next (inl failed) =
-      inr (inl (
-        count-more (trait.failure_count old) (trait.failure_count between) (trait.failure_count new) (loaded-lasts (then_ answer) between answers new l).count (loads.failed failed),
-        (name, ap (λ (a : Answer). by faults (Loads name then_) (a ∷ answers)) failed),
-      ))
+      let later = (loaded-lasts (then_ answer) between answers new l).count in
+      let counted = loads.failed failed in
+      let is = ap (λ (a : Answer). by faults (Loads name then_) (a ∷ answers)) failed in
+      inr (inl (count-more _ _ _ later counted, (name, is)))
   comes-loaded name then_ before old between new answer answers h same loads l next (inr (inl spent)) = inr (inr (name, ap (λ (a : Answer). by faults (Loads name then_) (a ∷ answers)) spent))
   comes-loaded name then_ before old between new answer answers h same loads l next (inr (inr is_what_is_there)) =
       let is : answer ≡ loaded (before name) most_bytes = is_what_is_there ∙ ap (λ (x : Option (List ℕ)). loaded x most_bytes) (same name) in

@@ -1,19 +1,15 @@
 -- Joining what a writer took of one text with what it took of the next.
-use Rattle.krb_files.proofs.Cited.{◌≡◌, ℕ, ◌≤◌, ◌+◌, ◌-◌, arith, List, [], ◌++◌, Option, None, Some, refl, sym, ap, ◌∙◌, append_assoc, append-nil, length, take, drop, take-append-drop, subst, Appends, Keeps, take-add}
+use Rattle.krb_files.proofs.Cited.{◌≡◌, ℕ, ◌≤◌, ◌+◌, ◌-◌, arith, List, [], ◌++◌, Option, refl, sym, ap, ◌∙◌, append_assoc, append-nil, length, take, drop, take-append-drop, subst, Appends, Keeps, take-add}
 use Rattle.std.proofs.lemmas.Grind.{common_steps}
 use Rattle.krb_files.specs.Bytes.{AppendsPrefix}
 
 -- an unchanged writer took the empty text
 pub Appends-nil : (a : Option (List ℕ)) → Appends a a []
-Appends-nil None = tt
-Appends-nil (Some x) = sym (append-nil x)
+Appends-nil a = grind (arith, append-nil)
 
 -- two texts, written one after the other, append both
 pub Appends-trans : (a b c : Option (List ℕ)) (bs cs : List ℕ) → Appends a b bs → Appends b c cs → Appends a c (bs ++ cs)
-Appends-trans None b c bs cs p q = tt
-Appends-trans (Some x) None c bs cs p q = absurd p
-Appends-trans (Some x) (Some y) None bs cs p q = absurd q
-Appends-trans (Some x) (Some y) (Some z) bs cs p q = q ∙ ap (λ l. l ++ cs) p ∙ append_assoc x bs cs
+Appends-trans a b c bs cs p q = grind (arith, append_assoc)
 
 -- a whole text and then a prefix of a second are a prefix of both
 pub AppendsPrefix-after : (a b c : Option (List ℕ)) (first second : List ℕ) → Appends a b first → AppendsPrefix b c second → AppendsPrefix a c (first ++ second)
@@ -55,7 +51,4 @@ Appends-take-more a b c done n bytes le p q =
 
 -- a text and then nothing more append the text
 pub Appends-keeps : (a b c : Option (List ℕ)) (text : List ℕ) → Appends a b text → Keeps b c → Appends a c text
-Appends-keeps None b c text p q = tt
-Appends-keeps (Some x) None c text p q = absurd p
-Appends-keeps (Some x) (Some y) None text p q = absurd q
-Appends-keeps (Some x) (Some y) (Some z) text p q = q ∙ p
+Appends-keeps a b c text p q = grind arith

@@ -1,7 +1,7 @@
-use Rattle.krb_files.proofs.Cited.{◌≡◌, ◌<◌, ◌∙◌, ℕ, Bool, not, List, length, get_or, Some, None, refl, ap, arith, find, position, nat_lt, slice_get, string_bytes, bytes_eq, prefix_len}
+use Rattle.krb_files.proofs.Cited.{◌≡◌, ◌<◌, ℕ, Bool, not, List, length, get_or, Some, None, refl, ap, arith, find, position, string_bytes, bytes_eq, prefix_len}
 use Rattle.std.proofs.lemmas.List.Folds.{find_at}
 use Rattle.std.proofs.lemmas.Option.{slice_get_read, slice_get_past}
-use Rattle.krb_files.proofs.FileLists.{find-map, position-some, position-none}
+use Rattle.krb_files.proofs.FileLists.{find-map}
 use Rattle.krb_files.proofs.mem_files.MemFiles.get.Goals as goal
 
 module _ {X : Type 0} (test : X → Bool) (xs : List X) where
@@ -10,17 +10,21 @@ module _ {X : Type 0} (test : X → Bool) (xs : List X) where
   before = prefix_len (λ x. not (test x)) xs
 
   within : (n : ℕ) → Some n ≡ position test xs → n < length xs
-  within n is = (position-some before (length xs) n (nat_lt before (length xs)) refl is).1
+  within n is = grind arith
 
   -- the element at a position is the first that passes
   found : (n : ℕ) (x : X) → Some n ≡ position test xs → x ≡ get_or xs n x → find test xs ≡ Some x
   found n x is read =
-      let at = position-some before (length xs) n (nat_lt before (length xs)) refl is in
-      find_at test xs ∙ ap (slice_get xs) at.0 ∙ slice_get_read xs (length xs) n x refl at.1 read
+      let at = find_at test xs in
+      let got = slice_get_read xs (length xs) n x refl (within n is) read in
+      grind arith
 
   -- without a position no element passes
   missing : None ≡ position test xs → find test xs ≡ None
-  missing none = find_at test xs ∙ slice_get_past xs before (position-none before (length xs) (nat_lt before (length xs)) refl none)
+  missing none =
+      let at = find_at test xs in
+      let past = slice_get_past xs before in
+      grind arith
 
 pub index-requires : goal.index-requires
 index-requires g c =
