@@ -1,5 +1,5 @@
 -- A save of each kind, by this program alone.
-use Rattle.std.proofs.Common.{◌≡◌, ◌≢◌, ℕ, ◌≤◌, Bool, true, false, List, [], ◌∷◌, length, slice_get, Option, None, Some, if◌then◌else◌, codes, arith, refl, sym, ◌∙◌}
+use Rattle.std.proofs.Common.{◌≡◌, ◌≢◌, ℕ, ◌≤◌, Bool, true, false, List, [], ◌∷◌, slice_get, Option, None, Some, if◌then◌else◌, codes, arith, refl, sym, ◌∙◌}
 use Rattle.std.specs.Prelude.{bytes_eq}
 use Rattle.std.proofs.lemmas.Bool.{cond_both}
 use Rattle.std.proofs.lemmas.Option.{slice_get_past}
@@ -11,7 +11,6 @@ use Rattle.krb_disk.specs.declared.stage.Stage.TheVariants.{Made, Locked, Agreed
 use Rattle.krb_disk.specs.Content.{Content, IsPatch}
 use Rattle.krb_disk.specs.InPlace.{PlaceSave, PlaceCall, PlaceMoment, Compare, Do, Watch, Pass, Overwrite, Shorten, Sync, Confirm, SavesInPlace, Turns, Makes, Works, since, clears}
 use Rattle.krb_disk.specs.Disk as disk
-use Rattle.krb_disk.specs.NewFile.{new_path}
 use Rattle.krb_disk.specs.Stages.{private_mode}
 
 -- ---- in place

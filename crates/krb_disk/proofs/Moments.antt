@@ -142,9 +142,7 @@ happens_holds save (call ∷ calls) now happens = does_holds save call happens.0
 
 -- a whole file has its bytes and its mode after a crash
 left_whole : (save : Save) (file left : Option File) → IsWhole save file → IsLeft file left → IsPermitted save left
-left_whole save None left whole leaves = absurd whole
-left_whole save (Some f) None whole leaves = absurd leaves
-left_whole save (Some f) (Some g) whole leaves = (leaves.1 whole.1.1 ∙ whole.0, rw leaves.0 whole.1.0)
+left_whole save file left whole leaves = grind arith
 
 -- each moment is safe
 pub each_moment : (save : Save) (calls : List Call) (now : Moment) (left : Names) → Happens save calls now → ((name : List ℕ) → IsLeft (now.names name) (left name)) → IsSafe save calls now left

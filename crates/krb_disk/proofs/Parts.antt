@@ -1,5 +1,5 @@
 -- Equal parts of two files.
-use Rattle.std.proofs.Common.{◌≡◌, ℕ, ◌-◌, ◌+◌, ◌<◌, ◌≤◌, List, Some, length, slice_get, get_or, arith, sym, ap, ◌∙◌}
+use Rattle.std.proofs.Common.{◌≡◌, ℕ, ◌-◌, ◌+◌, ◌<◌, ◌≤◌, List, length, slice_get, get_or, arith, ap, ◌∙◌}
 use Rattle.std.specs.List.{between}
 use Rattle.std.proofs.lemmas.List.Edits.{get_or-between}
 use Rattle.std.proofs.lemmas.Option.{slice_get-get_or}
@@ -14,5 +14,6 @@ part_at xs from to i past before =
 pub same_part : (xs ys : List ℕ) (from to : ℕ) → to ≤ length xs → to ≤ length ys → between from to xs ≡ between from to ys
     → (i : ℕ) → from ≤ i → i < to → slice_get xs i ≡ slice_get ys i
 same_part xs ys from to in_xs in_ys same i past before =
-    let bytes : get_or xs i 0 ≡ get_or ys i 0 = sym (part_at xs from to i past before) ∙ ap (λ (part : List ℕ). get_or part (i - from) 0) same ∙ part_at ys from to i past before in
-    slice_get-get_or xs i 0 (omega arith) ∙ ap Some bytes ∙ sym (slice_get-get_or ys i 0 (omega arith))
+    let one = part_at xs from to i past before in
+    let other = part_at ys from to i past before in
+    grind (arith, slice_get-get_or)

@@ -4,7 +4,7 @@ use Rattle.std.proofs.lemmas.Option.{slice_get_past}
 use Rattle.krb_disk.specs.declared.stage.PlaceStage.{PlaceStage}
 use Rattle.krb_disk.specs.declared.stage.PlaceStage.TheVariants.{Untouched, Quiet, Same, Extended, Lengthened, Unlocked, Ready, Overwritten, Cut, Finished, Saved, Whole, Trimmed, Back, Left, Mixed, Torn, Refilled, Lacking, Cleared}
 use Rattle.krb_disk.specs.Content.{Content, IsPatch}
-use Rattle.krb_disk.specs.InPlace.{PlaceSave, PlaceCall, Watch, Sync, Rewatch, Recompare, Restore, Event, Compare, Do, Fail, Intrude, PlaceMoment, shrinks, Turns, Makes, since, still_left, clears, Does, Leads, OneHas, IsLeft, HasOld, HasEnd, IsSafe}
+use Rattle.krb_disk.specs.InPlace.{PlaceSave, PlaceCall, Sync, Restore, Event, Compare, Do, Fail, Intrude, PlaceMoment, shrinks, Turns, Makes, since, still_left, clears, Does, Leads, OneHas, IsLeft, HasOld, HasEnd, IsSafe}
 
 -- what the patch of a save is
 abbrev Fits : PlaceSave → Type 0
@@ -93,21 +93,15 @@ still save cleared _ _ t u i x was turns = grind arith
 abbrev Holds : PlaceSave → PlaceMoment → Type 0
 Holds save m = m.alone ≡ true → (i : ℕ) → ((x : Option ℕ) → OneHas (m.bytes ∷ m.earlier) i x → Was save m.cleared m.stage i x) × Now save m.cleared m.stage i (m.bytes i)
 
+-- a call that failed adds at most the bytes that were there
+had : (call : PlaceCall) (b : Content) (cs : List Content) (i : ℕ) (x : Option ℕ) → OneHas (still_left call b cs) i x → OneHas (b ∷ cs) i x
+had call b cs i x has = grind arith
+
 -- what a call that does what it is to do leaves of the bytes since the last sync
 past : (save : PlaceSave) (cleared : Bool) (call : PlaceCall) (s t u : PlaceStage) (b : Content) (cs : List Content) (i : ℕ) (x : Option ℕ) → Fits save
     → (OneHas (b ∷ cs) i x → Was save cleared s i x) → Turns save call s t u → OneHas (since call b cs) i x → Was save (clears call cleared) t i x
 past save cleared Sync s t u b cs i x fits was turns has = absurd has
-past save cleared Watch s t u b cs i x fits was turns has = let is = was (inr has) in grind (arith, slice_get_past)
-past save cleared Rewatch s t u b cs i x fits was turns has = let is = was (inr has) in grind (arith, slice_get_past)
-past save cleared Recompare s t u b cs i x fits was turns has = let is = was (inr has) in grind (arith, slice_get_past)
-past save cleared _ s t u b cs i x fits was turns has = let is = was has in grind (arith, slice_get_past)
-
--- a call that failed adds at most the bytes that were there
-had : (call : PlaceCall) (b : Content) (cs : List Content) (i : ℕ) (x : Option ℕ) → OneHas (still_left call b cs) i x → OneHas (b ∷ cs) i x
-had Watch b cs i x has = inr has
-had Rewatch b cs i x has = inr has
-had Recompare b cs i x has = inr has
-had _ b cs i x has = has
+past save cleared call s t u b cs i x fits was turns has = let is = was (had call b cs i x has) in grind (arith, slice_get_past)
 
 -- it is kept by each event
 event_holds : (save : PlaceSave) (event : Event) (m n : PlaceMoment) → Fits save → Holds save m → Does save event m n → Holds save n

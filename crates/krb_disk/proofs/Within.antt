@@ -1,5 +1,5 @@
 -- Rights that are a subset of others.
-use Rattle.std.proofs.Common.{◌≡◌, ℕ, Bool, true, false, arith, sym, ap, ◌∙◌, bit_and}
+use Rattle.std.proofs.Common.{ℕ, Bool, true, false, arith, sym, ap, ◌∙◌, bit_and}
 use Rattle.std.specs.Int.Bits.{and_self}
 use Rattle.std.proofs.lemmas.Nat.{and_assoc, and_comm, and_le_l}
 use Rattle.krb_disk.specs.Mode.{IsWithin, IsNewMode, GivesNoMore, owner_rights, group_rights, other_rights}

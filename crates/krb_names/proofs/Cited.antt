@@ -1,5 +1,5 @@
 -- The names that the proofs cite most, passed on from one place. Declares nothing.
-pub use Rattle.std.proofs.Common.{◌≡◌, ◌∙◌, sym, ap, subst, refl, arith, ℕ, ◌+◌, ◌<◌, ◌⊎◌, inl, inr, Bool, true, false, cond, List, [], ◌∷◌, ◌++◌, length, take, map, get_or, Result, Ok, Err, Option, Some, None, set, replicate, ◌-◌}
+pub use Rattle.std.proofs.Common.{◌≡◌, ◌∙◌, sym, ap, subst, refl, arith, ℕ, ◌+◌, ◌<◌, ◌⊎◌, inl, inr, Bool, true, false, cond, List, [], ◌∷◌, ◌++◌, length, take, map, get_or, Result, Ok, Err, Option, Some, None, replicate, ◌-◌}
 pub use Rattle.std.specs.List.{fold, All, list_any, dedup, dedup_from}
 pub use Rattle.std.specs.Prelude.{◌||◌, ◌&&◌, ◌==◌}
 pub use Rattle.std.specs.Str.{bytes_eq}
@@ -10,7 +10,7 @@ pub use Rattle.krb_names.specs.Marks.{has_mark, with_mark}
 pub use Rattle.std.proofs.lemmas.List.{take_all, ext_get_or, get_or-map, get_or-set_other, get_or-set_same, get_or_default, length-map, length-set}
 pub use Rattle.std.proofs.lemmas.List.Kept.{IsStrictlySortedBy-dedup, Contains-from_dedup}
 pub use Rattle.std.proofs.lemmas.List.Sorted.{All-permutation, list_any-IsPermutation, searchable_from_sorted}
-pub use Rattle.std.proofs.lemmas.Bool.{cases_eq, eq-eqb, eqb-true, ne_eqb, and_parts, cases_lt, cases_order}
+pub use Rattle.std.proofs.lemmas.Bool.{eq-eqb, eqb-true, ne_eqb, and_parts, cases_lt, cases_order}
 pub use Rattle.std.proofs.lemmas.List.Folds.{Any-from_list_any, list_any_at, list_any_none}
 pub use Rattle.std.proofs.lemmas.Slice.Eq.{bytes_eq-Decides}
 pub use Rattle.std.specs.Option.{is_some}

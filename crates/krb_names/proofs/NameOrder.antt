@@ -1,5 +1,5 @@
 -- The order of names by a number and their bytes.
-use Rattle.krb_names.proofs.Cited.{◌≡◌, arith, Bool, ◌&&◌, ◌==◌, bytes_eq, HashedName, hash_of, name_cmp, nat_cmp_total, on_total, then_total, bytes_eq-Decides, eq_by_cmp, is_eq}
+use Rattle.krb_names.proofs.Cited.{◌≡◌, arith, ◌&&◌, ◌==◌, bytes_eq, HashedName, hash_of, name_cmp, nat_cmp_total, on_total, then_total, bytes_eq-Decides, eq_by_cmp, is_eq}
 use Rattle.std.proofs.lemmas.Bool.Decides.{nat_tests}
 use Rattle.std.proofs.lemmas.Map.Text.{is_eq-slice_cmp}
 use Rattle.std.specs.Cmp.{IsTotalOrder}

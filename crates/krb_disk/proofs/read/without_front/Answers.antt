@@ -1,4 +1,4 @@
-use Rattle.std.proofs.Common.{◌++◌, drop, length, sym, ap, ◌∙◌, List, ℕ}
+use Rattle.std.proofs.Common.{length, arith}
 use Rattle.std.proofs.lemmas.List.{take-append-drop}
 use Rattle.std.specs.Cmp.Lexicographic.{same_text}
 use Rattle.krb_disk.proofs.read.without_front.Goals as goal
@@ -8,6 +8,5 @@ pub returns-then-eq : goal.returns-then-eq
 returns-then-eq c =
     let parts = c.in_ok-begin.ensures.cases in
     let same = same_text c.in_ok-begin.begin.now c.args.front.now c.if-eq.ensures in
-    sym (take-append-drop (length c.args.front.now) c.args.bytes.now)
-    ∙ ap (λ (begin : List ℕ). begin ++ drop (length c.args.front.now) c.args.bytes.now) (sym parts.1 ∙ same)
-    ∙ ap (λ (rest : List ℕ). c.args.front.now ++ rest) (sym parts.2)
+    let whole = take-append-drop (length c.args.front.now) c.args.bytes.now in
+    grind arith
