@@ -111,6 +111,7 @@ impl<'a> Parts<'a> {
 }
 
 /// Returns whether exactly these bytes are left to read in a file.
+#[tactic(auto, using(crate::proofs::Pieces::had_both, crate::proofs::Pieces::had_none))]
 pub fn has_bytes<F: Read>(file: &mut F, bytes: Parts<'_>) -> io::Result<bool>
     ensures { IfOk result (λ has. IsTrue has
         → IfSome (F.remaining file.old) (λ left. left ≡ bytes.entry.front.now ++ bytes.entry.end.now)) }
