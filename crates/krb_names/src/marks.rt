@@ -69,6 +69,7 @@ impl<'t, A: Allocator> NameMarks<'t, A> {
     }
 
     /// Returns whether a name is there and marked.
+    #[tactic(auto, using(crate::proofs::MarkedNames::has_at))]
     pub fn is_marked(&self, name: &[u8]) -> bool
         ensures { (names : List (List ℕ)) (marked : List ℕ → Bool) → AreMarked marked names self.now
             → result ≡ (is_among names name.now && marked name.now) }
