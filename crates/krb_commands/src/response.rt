@@ -1,7 +1,7 @@
 //! Runs the action of a command line.
 
-ghost use Rattle.std.specs.Prelude.{◌≡◌};
-ghost use Rattle.krb_commands.specs.Actions.{ChecksTickets, EndsParsed, file_or, files_or};
+ghost use Rattle.std.specs.Prelude.{◌≡◌, slice_get};
+ghost use Rattle.krb_commands.specs.Actions.{ChecksTickets, EndsAction, EndsParsed, file_or, files_or};
 ghost use Rattle.krb_driver.specs.Loading.{result_map};
 
 use crate::action::Action;
@@ -48,20 +48,72 @@ fn files_or<'n, 'a>(
     }
 }
 
-// Checks the tickets of a file. Prints nothing but a bad command line.
+// Checks the tickets of the first file, or else of the default. Prints nothing but a bad command line.
 fn check_tickets<A: Allocator + Copy, F: Files, R: Read, W: Write, E: Write>(
     alloc: A,
     check: TicketCheck,
     now: Option<u32>,
-    file: DefaultName<'_>,
+    names: &[FileName<'_>],
+    default: DefaultName<'_>,
     world: &mut World<F, R, W, E>,
 ) -> u8
-    ensures { ChecksTickets F.Files world.old world.new result check now file.entry }
+    ensures { ChecksTickets F.Files world.old world.new result check now (file_or (slice_get names.now 0) default.entry) }
 {
-    match file {
+    match file_or(names.first().copied(), default) {
         Ok(file) => run_ticket_check(alloc, check, now, file, &mut world.files),
         Err(WordFault::NoMemory) => 4,
         Err(fault) => report_word_fault(fault, &mut world.err),
+    }
+}
+
+// Runs an action, and returns the exit status.
+fn run_action<A: Allocator + Copy, F: Files, R: Read, W: Write, E: Write>(
+    alloc: A,
+    action: &Action<'_>,
+    now: Option<u32>,
+    default: DefaultName<'_>,
+    world: &mut World<F, R, W, E>,
+) -> u8
+    ensures { EndsAction F.Files world.old world.new result now default.entry action.now }
+{
+    match action {
+        Action::Klist(options, names) => match files_or(names, &default) {
+            Ok(names) => run_klist(alloc, options, names, world),
+            Err(fault) => report_word_fault(fault, &mut world.err),
+        },
+        Action::Overview(json, names) => match files_or(names, &default) {
+            Ok(names) => run_overview(alloc, *json, now, names, world),
+            Err(fault) => report_word_fault(fault, &mut world.err),
+        },
+        Action::CheckTicket(check, names) => {
+            check_tickets(alloc, *check, now, names, default, world)
+        }
+        Action::Ktfind(options, file) => run_ktfind(alloc, options, *file, world),
+        Action::Ktedit(v1_order, file) => run_ktedit(alloc, *v1_order, *file, world),
+        Action::Ktcheck(options, names) => match files_or(names, &default) {
+            Ok(names) => run_ktcheck(alloc, options, now, names, world),
+            Err(fault) => report_word_fault(fault, &mut world.err),
+        },
+        Action::Show(options, names) => match files_or(names, &default) {
+            Ok(names) => run_show(alloc, *options, now, names, world),
+            Err(fault) => report_word_fault(fault, &mut world.err),
+        },
+        Action::Ktmatch(options, keytab, names) => match files_or(names, &default) {
+            Ok(names) => run_ktmatch(alloc, options, *keytab, names, world),
+            Err(fault) => report_word_fault(fault, &mut world.err),
+        },
+        Action::Ktremove(options, names) => run_ktremove(alloc, options, now, names, world),
+        Action::Ktcopy(options, from, to) => run_ktcopy(alloc, options, *from, *to, world),
+        Action::Ktdiff(options, a, b) => run_ktdiff(alloc, options, *a, *b, world),
+        Action::Ktutil(options) => {
+            let now = now.unwrap_or(0);
+            run_ktutil(alloc, options.v1_order, options.prompts, now, world)
+        }
+        Action::Ccedit(file) => run_ccedit(alloc, *file, world),
+        Action::Ccremove(options, names) => run_ccremove(alloc, options, now, names, world),
+        Action::Hold(kind, file) => run_hold(alloc, *kind, *file, world),
+        Action::HoldOnTerminal => print(b"", Err(RunError::OutputIsTerminal), world),
+        Action::Help(text) => print(text.as_bytes(), Ok(Verdict::Well), world),
     }
 }
 
@@ -78,46 +130,7 @@ pub fn respond<A: Allocator + Copy, F: Files, R: Read, W: Write, E: Write>(
     ensures { EndsParsed F.Files world.old world.new result now default.entry parsed.now }
 {
     match parsed {
-        Ok(Action::Klist(options, names)) => match files_or(names, &default) {
-            Ok(names) => run_klist(alloc, options, names, world),
-            Err(fault) => report_word_fault(fault, &mut world.err),
-        },
-        Ok(Action::Overview(json, names)) => match files_or(names, &default) {
-            Ok(names) => run_overview(alloc, *json, now, names, world),
-            Err(fault) => report_word_fault(fault, &mut world.err),
-        },
-        Ok(Action::CheckTicket(check, names)) => {
-            let file = file_or(names.first().copied(), default);
-            check_tickets(alloc, *check, now, file, world)
-        }
-        Ok(Action::Ktfind(options, file)) => run_ktfind(alloc, options, *file, world),
-        Ok(Action::Ktedit(v1_order, file)) => run_ktedit(alloc, *v1_order, *file, world),
-        Ok(Action::Ktcheck(options, names)) => match files_or(names, &default) {
-            Ok(names) => run_ktcheck(alloc, options, now, names, world),
-            Err(fault) => report_word_fault(fault, &mut world.err),
-        },
-        Ok(Action::Show(options, names)) => match files_or(names, &default) {
-            Ok(names) => run_show(alloc, *options, now, names, world),
-            Err(fault) => report_word_fault(fault, &mut world.err),
-        },
-        Ok(Action::Ktmatch(options, keytab, names)) => match files_or(names, &default) {
-            Ok(names) => run_ktmatch(alloc, options, *keytab, names, world),
-            Err(fault) => report_word_fault(fault, &mut world.err),
-        },
-        Ok(Action::Ktremove(options, names)) => run_ktremove(alloc, options, now, names, world),
-        Ok(Action::Ktcopy(options, from, to)) => run_ktcopy(alloc, options, *from, *to, world),
-        Ok(Action::Ktdiff(options, ours, others)) => {
-            run_ktdiff(alloc, options, *ours, *others, world)
-        }
-        Ok(Action::Ktutil(options)) => {
-            let now = now.unwrap_or(0);
-            run_ktutil(alloc, options.v1_order, options.prompts, now, world)
-        }
-        Ok(Action::Ccedit(file)) => run_ccedit(alloc, *file, world),
-        Ok(Action::Ccremove(options, names)) => run_ccremove(alloc, options, now, names, world),
-        Ok(Action::Hold(kind, file)) => run_hold(alloc, *kind, *file, world),
-        Ok(Action::HoldOnTerminal) => print(b"", Err(RunError::OutputIsTerminal), world),
-        Ok(Action::Help(text)) => print(text.as_bytes(), Ok(Verdict::Well), world),
+        Ok(action) => run_action(alloc, action, now, default, world),
         Err(fault) => report_word_fault(*fault, &mut world.err),
     }
 }
