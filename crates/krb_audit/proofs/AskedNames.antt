@@ -1,5 +1,5 @@
 -- A set of names in place of a list of texts.
-use Rattle.krb_audit.proofs.Cited.{◌≡◌, ◌∙◌, arith, refl, sym, ap, ℕ, Bool, true, false, List, [], ◌∷◌, length, ◌||◌, bytes_eq, Parts, true≢false, bytes_eq-Decides, name_text, HaveSameNames, is_among, AsksFor, has_text}
+use Rattle.krb_audit.proofs.Cited.{◌≡◌, ◌∙◌, refl, sym, ap, ℕ, Bool, true, false, List, [], ◌∷◌, length, ◌||◌, Parts, true≢false, bytes_eq-Decides, name_text, HaveSameNames, is_among, AsksFor, has_text}
 
 first_among : (name : List ℕ) (others : List (List ℕ)) → is_among (name ∷ others) name ≡ true
 first_among name others = ap (λ (b : Bool). b || is_among others name) ((bytes_eq-Decides name name).1 refl)
@@ -9,11 +9,6 @@ asked_for [] [] same p = refl
 asked_for [] (name ∷ names) same p = absurd (true≢false (sym (same name ∙ first_among name names)))
 asked_for (text ∷ texts) [] same p = absurd (true≢false (sym (first_among text texts) ∙ same text))
 asked_for (text ∷ texts) (name ∷ names) same p = sym (same (name_text p))
-
--- any name is asked for if no names are
-pub none_asked : (names : List (List ℕ)) (p : Parts) → length names ≡ 0 → true ≡ has_text names p
-none_asked [] p none = refl
-none_asked (name ∷ names) p none = absurd (omega (arith, none))
 
 pub some_asked : (names : List (List ℕ)) (p : Parts) → (length names ≡ 0 → ⊥) → is_among names (name_text p) ≡ has_text names p
 some_asked [] p some = absurd (some refl)

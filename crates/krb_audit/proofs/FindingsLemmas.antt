@@ -22,15 +22,7 @@ listed_if b m entries after = grind (arith, append_assoc entries (m ∷ []) afte
 pub one_checked : {A : Type 0} (aged_by : Option ℕ) (k : KeytabState) (wanted : List (List ℕ)) (x : PlacedEntry) (rest : List PlacedEntry) (b c : Before A) (marks : Marks) (entries entries' : List Marked) (is_found : Bool) → IsCheckedUpTo aged_by k wanted (x ∷ rest) b entries
     → ((before : List PlacedEntry) → IsBefore k wanted before (x ∷ rest) b → (marks ≡ marks_of aged_by k before x) × IsBefore k wanted (before ++ x ∷ []) rest c)
     → has_some marks.findings ≡ is_found → entries' ≡ cond is_found (entries ++ (x, marks) ∷ []) entries → IsCheckedUpTo aged_by k wanted rest c entries'
-one_checked aged_by k wanted x rest b c marks entries entries' is_found h gives found listed =
-    let given = gives h.before h.known in
-    let after = reported_of (marked_after aged_by k (h.before ++ x ∷ []) rest) in
-    record {
-      before = h.before ++ x ∷ [];
-      known = given.1;
-      entries_are = ap (λ (es : List Marked). es ++ after) (listed ∙ ap (λ (t : Bool). cond t (entries ++ (x, marks) ∷ []) entries) (sym found)) ∙ listed_if (has_some marks.findings) (x, marks) entries after
-          ∙ ap (λ (ms : Marks). entries ++ cond (has_some ms.findings) ((x, ms) ∷ after) after) given.0 ∙ h.entries_are;
-    }
+one_checked aged_by k wanted x rest b c marks entries entries' is_found h gives found listed = search (arith, listed_if)
 
 -- when no entry is left, all are before
 pub all_before : {A : Type 0} (aged_by : Option ℕ) (k : KeytabState) (wanted : List (List ℕ)) (b : Before A) (entries : List Marked) → IsCheckedUpTo aged_by k wanted [] b entries → IsBefore k wanted (placed_entries k) [] b

@@ -1,12 +1,11 @@
 -- The first entry that is alike, when one more entry is added.
-use Rattle.krb_audit.proofs.Cited.{◌≡◌, arith, ℕ, Bool, true, false, cond, List, [], ◌∷◌, ◌++◌, Option, Some, None, refl, ap, ◌∙◌, option_map, bytes_eq, PlacedEntry, first_number, find, on_equiv, and_equiv, nat_eq_equiv, find-append, as_alike, is_alike, IsEquivalence, Alike, first_alike, AreFirsts, Key, same_key}
+use Rattle.krb_audit.proofs.Cited.{◌≡◌, arith, ℕ, Bool, true, false, cond, List, [], ◌∷◌, ◌++◌, Option, Some, None, refl, ap, ◌∙◌, option_map, bytes_eq, PlacedEntry, first_number, find, on_equiv, and_equiv, nat_eq_equiv, find-append, is_alike, IsEquivalence, Alike, first_alike, AreFirsts, Key, same_key}
 use Rattle.std.specs.Option.{option_or, unwrap_or}
 use Rattle.krb_audit.proofs.FirstNumbers.{number_test}
 use Rattle.krb_names.proofs.SameNames.{same_equiv}
 
 alike_equiv : IsEquivalence is_alike
-alike_equiv = and_equiv (on_equiv (λ (x : PlacedEntry). x.1.principal) same_equiv)
-    (and_equiv (on_equiv (λ (x : PlacedEntry). x.1.version) nat_eq_equiv) (on_equiv (λ (x : PlacedEntry). x.1.enctype) nat_eq_equiv))
+alike_equiv = search (arith, and_equiv, on_equiv, same_equiv, nat_eq_equiv)
 
 -- the key of an entry, by the number of its name
 abbrev pub key_in : ℕ → PlacedEntry → Key
@@ -38,9 +37,6 @@ firsts_next all xs x i look new firsts number puts y j number_too = grind (arith
 abbrev pub alike_to : List ℕ → ℕ × List ℕ → Alike
 alike_to secret v = record { place = v.0; has_same_key = bytes_eq v.1 secret }
 
-alike_mapped : (x : PlacedEntry) (o : Option PlacedEntry) → option_map (alike_to x.1.key) (option_map first_of o) ≡ option_map (as_alike x) o
-alike_mapped x o = grind arith
-
 -- the same of the first entry that is alike
 pub alike_here : (all xs : List PlacedEntry) (x : PlacedEntry) (i : ℕ) (look : Key → Option (ℕ × List ℕ)) → AreFirsts all xs look → first_number x.1.principal all ≡ Some i → option_map (alike_to x.1.key) (look (key_in i x)) ≡ first_alike xs x
-alike_here all xs x i look firsts number = ap (option_map (alike_to x.1.key)) (firsts x i number) ∙ alike_mapped x (find (is_alike x) xs)
+alike_here all xs x i look firsts number = ap (option_map (alike_to x.1.key)) (firsts x i number) ∙ grind arith

@@ -1,5 +1,5 @@
 -- Which entries have a selected kvno, from the rows.
-use Rattle.krb_audit.proofs.Cited.{◌≡◌, arith, ℕ, Bool, false, cond, List, [], ◌∷◌, map, replicate, Option, refl, ap, sym, ◌∙◌, ◌&&◌, ◌||◌, ◌==◌, not, fold, list_any, All, Parts, have_same_name, PlacedEntry, Row, Stamp, is_old, AreRows, HasPlace, has_selected_kvno, AreNewest, selects_row, or-false, Any, Exactly, Newest, Old, Some, is_young, AreMarks, AreYoung, is_old_row, is_young_row}
+use Rattle.krb_audit.proofs.Cited.{◌≡◌, arith, ℕ, Bool, false, cond, List, [], ◌∷◌, map, replicate, Option, ap, sym, ◌∙◌, ◌&&◌, ◌||◌, not, fold, list_any, All, Parts, have_same_name, PlacedEntry, Row, Stamp, is_old, AreRows, HasPlace, has_selected_kvno, AreNewest, selects_row, or-false, Old, Some, is_young, AreMarks, AreYoung, is_old_row, is_young_row}
 use Rattle.krb_audit.specs.declared.selection.SelectedKvno.{SelectedKvno}
 use Rattle.krb_audit.proofs.NewestStamps.{at_name, old_row}
 use Rattle.krb_audit.proofs.RowLemmas.{IsRow, map_rows, stepped}
@@ -24,11 +24,7 @@ are_young now seconds xs rows len newest are places stamps p i first =
 -- ---- selected kvnos
 
 selects_by : (kvno : SelectedKvno) (now : ℕ) (xs : List PlacedEntry) (newest : List (Option Stamp)) (young : List Bool) (r : Row) (x : PlacedEntry) → AreNewest xs newest → AreYoung kvno now xs young → IsRow xs x r → selects_row kvno newest young r ≡ has_selected_kvno kvno now xs x.1
-selects_by Any now xs newest young r x stamps marks is = refl
-selects_by (Exactly version) now xs newest young r x stamps marks is = ap (λ (s : Stamp). s.kvno == version) is.stamp
-selects_by Newest now xs newest young r x stamps marks is = ap not (old_row xs newest r x stamps is)
-selects_by (Old age) now xs newest young r x stamps marks is = grind (arith, old_row xs newest r x stamps is, marks x.1.principal r.first is.first)
+selects_by kvno now xs newest young r x stamps marks is = search (arith, old_row)
 
 pub are_marks : (kvno : SelectedKvno) (now : ℕ) (xs : List PlacedEntry) (newest : List (Option Stamp)) (young : List Bool) (rows : List Row) → AreRows xs xs rows → AreNewest xs newest → AreYoung kvno now xs young → AreMarks kvno now xs xs (map (selects_row kvno newest young) rows)
-are_marks kvno now xs newest young rows are stamps marks =
-    map_rows (selects_row kvno newest young) (λ x. has_selected_kvno kvno now xs x.1) xs (λ r x row. selects_by kvno now xs newest young r x stamps marks row) xs rows are
+are_marks kvno now xs newest young rows are stamps marks = search (arith, map_rows, selects_by)

@@ -1,5 +1,5 @@
 -- Names that are missing, as the code holds them, and as the definitions have them.
-use Rattle.krb_audit.proofs.Cited.{◌≡◌, ℕ, Bool, true, false, cond, List, [], ◌∷◌, ◌++◌, refl, sym, ap, subst, ◌∙◌, ◌||◌, ◌&&◌, not, filter, fold, list_any, list_any-append, map, map_push, append-nil, bytes_eq, PlacedEntry, ◌<◌, ◌+◌, arith, take, get_or, length, vec_items, Parts, get_or-map, length-map, take_more, filter-append, list_any_at, nat_list_eq_equiv, bytes_eq-Decides, Vec, Bor, name_text, AreMarked, is_among, added_once, prints_as}
+use Rattle.krb_audit.proofs.Cited.{◌≡◌, ℕ, Bool, true, false, cond, List, [], ◌∷◌, ◌++◌, sym, ap, subst, ◌∙◌, ◌||◌, ◌&&◌, not, filter, fold, list_any, list_any-append, map, map_push, append-nil, bytes_eq, PlacedEntry, ◌<◌, ◌+◌, arith, take, get_or, length, vec_items, Parts, get_or-map, length-map, take_more, filter-append, list_any_at, nat_list_eq_equiv, bytes_eq-Decides, Vec, Bor, name_text, AreMarked, is_among, added_once, prints_as}
 use Rattle.std.proofs.lemmas.List.Sums.{fold-append}
 use Rattle.krb_names.specs.declared.marks.NameMarks.{NameMarks}
 
@@ -26,8 +26,7 @@ abbrev pub missing_of : (List ℕ → Bool) → List (List ℕ) → List (List �
 missing_of seen texts = filter (λ text. not (seen text)) (fold added_once [] texts)
 
 among_added : (texts : List (List ℕ)) (text other : List ℕ) (b : Bool) → is_among texts text ≡ b → is_among (cond b texts (texts ++ text ∷ [])) other ≡ (is_among texts other || bytes_eq other text)
-among_added texts text other true among = grind (arith, among, bytes_eq-Decides other text)
-among_added texts text other false among = grind (arith, list_any-append (bytes_eq other) texts (text ∷ []))
+among_added texts text other b among = search (arith, bytes_eq-Decides, list_any-append)
 
 or_more : (a b c : Bool) → ((a || b) || c) ≡ (a || (b || c))
 or_more a b c = grind arith
@@ -35,9 +34,7 @@ or_more a b c = grind arith
 -- each once, they are the same
 among_once : (once texts : List (List ℕ)) (other : List ℕ) → is_among (fold added_once once texts) other ≡ (is_among once other || is_among texts other)
 among_once once [] other = grind arith
-among_once once (text ∷ texts) other =
-    among_once (added_once once text) texts other ∙ ap (λ (b : Bool). b || is_among texts other) (among_added once text other (is_among once text) refl)
-    ∙ or_more (is_among once other) (bytes_eq other text) (is_among texts other)
+among_once once (text ∷ texts) other = search (arith, among_added, or_more, among_once (added_once once text) texts other)
 
 added_by : (seen : List ℕ → Bool) (once : List (List ℕ)) (text : List ℕ) (s b : Bool) → seen text ≡ s → filter (λ t. not (seen t)) (cond b once (once ++ text ∷ [])) ≡ cond (s || b) (filter (λ t. not (seen t)) once) (filter (λ t. not (seen t)) once ++ text ∷ [])
 added_by seen once text s true e = grind arith
@@ -45,10 +42,7 @@ added_by seen once text s false e = grind (arith, e, filter-append (λ t. not (s
 
 -- with one more text
 missing_next : (seen : List ℕ → Bool) (done : List (List ℕ)) (text : List ℕ) → missing_of seen (done ++ text ∷ []) ≡ cond (seen text || is_among done text) (missing_of seen done) (missing_of seen done ++ text ∷ [])
-missing_next seen done text =
-    ap (filter (λ t. not (seen t))) (fold-append added_once [] done (text ∷ []))
-    ∙ added_by seen (fold added_once [] done) text (seen text) (is_among (fold added_once [] done) text) refl
-    ∙ ap (λ (b : Bool). cond (seen text || b) (missing_of seen done) (missing_of seen done ++ text ∷ [])) (among_once [] done text)
+missing_next seen done text = search (arith, fold-append, added_by, among_once)
 
 -- ---- the wanted texts, one after the other
 
@@ -68,9 +62,6 @@ pub record AreTaken {A : Type 0} (seen : List ℕ → Bool) (wanted done : List 
   pub marks : AreMarked (seen_or seen done) wanted m
   pub missing : texts_of ts ≡ missing_of seen done
 
-taken_if : (b : Bool) (ts : List (Bor (List ℕ))) (t : Bor (List ℕ)) → texts_of (cond b ts (ts ++ t ∷ [])) ≡ cond b (texts_of ts) (texts_of ts ++ t.now ∷ [])
-taken_if b ts t = grind (arith, map_push)
-
 among_more : (done : List (List ℕ)) (text other : List ℕ) → is_among (done ++ text ∷ []) other ≡ (is_among done other || bytes_eq other text)
 among_more done text other = grind (arith, list_any-append (bytes_eq other) done (text ∷ []))
 
@@ -86,7 +77,7 @@ taken_next seen wanted done m n ts us t taken marks is = record {
   marks = subst (λ (marked : List ℕ → Bool). AreMarked marked wanted n) (marked_more seen done t.now) marks;
   missing =
       let b = seen_or seen done t.now in
-      ap texts_of is ∙ taken_if b ts t ∙ ap (λ (l : List (List ℕ)). cond b l (l ++ t.now ∷ [])) taken.missing ∙ sym (missing_next seen done t.now);
+      ap texts_of is ∙ (grind (arith, map_push)) ∙ ap (λ (l : List (List ℕ)). cond b l (l ++ t.now ∷ [])) taken.missing ∙ sym (missing_next seen done t.now);
 }
 
 module _ {A : Type 0} (vs : List (Vec ℕ A)) (i : ℕ) (v : Vec ℕ A) (below : i < length vs) (is : v ≡ get_or vs i v) where

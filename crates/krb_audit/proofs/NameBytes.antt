@@ -1,6 +1,5 @@
 -- The bytes that encode a name without its type determine the name.
-use Rattle.krb_audit.proofs.Cited.{◌≡◌, arith, ℕ, ◌+◌, List, [], ◌∷◌, ◌++◌, length, take, Some, None, sym, ap, subst, ◌∙◌, append_assoc, bytes_eq, KtFormat, Parts, have_same_name, some_is, EntryParts, kt_name, length-append, take_at, digits, data16, order_of, name_type_field, kt_principal, HasNameType, FitsKt, wide32, Spells, type_len, bytes_eq-Decides, same_name_is}
-use Rattle.std.specs.Int.{w16, w32}
+use Rattle.krb_audit.proofs.Cited.{◌≡◌, arith, ℕ, ◌+◌, List, [], ◌++◌, length, take, Some, None, sym, ap, ◌∙◌, append_assoc, bytes_eq, KtFormat, Parts, have_same_name, some_is, EntryParts, kt_name, length-append, take_at, name_type_field, kt_principal, FitsKt, wide32, Spells, type_len, bytes_eq-Decides, same_name_is}
 use Rattle.krb_wire.specs.declared.format.Order.TheVariants.{Big}
 use Rattle.krb_wire.specs.Reading.{kt_principal_at}
 use Rattle.krb_wire.proofs.Principals.{kt_principal_again}
@@ -22,19 +21,7 @@ pub record Opens (f : KtFormat) (bytes : List ℕ) (p : Parts) : Type 0 where
   pub fits : FitsKt f p
 
 pub opens : (f : KtFormat) (e : EntryParts) (bytes : List ℕ) → Spells f e bytes → Opens f bytes e.principal
-opens f e bytes s =
-    let p = s.fields.principal in
-    let after = digits (order_of f) w32 s.fields.timestamp ++ ((s.fields.low_version ∷ []) ++ (digits (order_of f) w16 s.fields.enctype ++ data16 (order_of f) s.fields.key)) in
-    let parts : bytes ≡ kt_principal f p ++ (after ++ s.tail) = s.parts ∙ append_assoc (kt_principal f p) after s.tail in
-    let named : bytes ≡ kt_name f p ++ (name_type_field f p.name_type ++ (after ++ s.tail)) =
-    parts ∙ ap (λ (b : List ℕ). b ++ (after ++ s.tail)) (with_type f p) ∙ append_assoc (kt_name f p) (name_type_field f p.name_type) (after ++ s.tail) in
-    let is : e.principal ≡ p = ap (λ (x : EntryParts). x.principal) s.entry in
-    subst (Opens f bytes) (sym is) (record {
-      rest = after ++ s.tail;
-      read = ap (kt_principal_at f) parts ∙ kt_principal_again f p (after ++ s.tail) s.fit.principal;
-      parts = named;
-      fits = s.fit.principal;
-    })
+opens f e bytes s = search (arith, with_type, append_assoc, kt_principal_again)
 
 pub is_read : (f : KtFormat) (e : EntryParts) (bytes : List ℕ) → Spells f e bytes → kt_principal_at f bytes ≡ None → ⊥
 is_read f e bytes s none = grind (arith, none, (opens f e bytes s).read)
@@ -61,20 +48,14 @@ name_taken f e bytes n s is =
 abbrev untyped : Parts → Parts
 untyped p = record { name_type = 0; realm = p.realm; components = p.components }
 
-no_type : (f : KtFormat) → HasNameType f 0
-no_type f = search arith
-
 read_again : (f : KtFormat) (p : Parts) → FitsKt f p → kt_principal_at f ((kt_name f p ++ name_type_field f 0) ++ []) ≡ Some (untyped p, [])
-read_again f p fits = ap (λ (b : List ℕ). kt_principal_at f (b ++ [])) (sym (with_type f (untyped p))) ∙ kt_principal_again f (untyped p) [] (record { lengths = fits.lengths; name_type = no_type f })
+read_again f p fits = ap (λ (b : List ℕ). kt_principal_at f (b ++ [])) (sym (with_type f (untyped p))) ∙ kt_principal_again f (untyped p) [] (record { lengths = fits.lengths; name_type = search arith })
 
 same_untyped : (f : KtFormat) (p q : Parts) → FitsKt f p → FitsKt f q → kt_name f p ≡ kt_name f q → untyped p ≡ untyped q
 same_untyped f p q fp fq e = grind (arith, e, read_again f p fp, read_again f q fq)
-
-named_alike : (f : KtFormat) (p q : Parts) → p.realm ≡ q.realm → p.components ≡ q.components → kt_name f p ≡ kt_name f q
-named_alike f p q realm components = grind (arith, realm, components)
 
 -- two names are the same iff these bytes are equal
 pub same_bytes : (f : KtFormat) (p q : Parts) → FitsKt f p → FitsKt f q → bytes_eq (kt_name f p) (kt_name f q) ≡ have_same_name p q
 same_bytes f p q fp fq = same_name_is p q (bytes_eq (kt_name f p) (kt_name f q))
     (λ e. let is = same_untyped f p q fp fq ((bytes_eq-Decides (kt_name f p) (kt_name f q)).0 e) in (ap (λ (x : Parts). x.realm) is, ap (λ (x : Parts). x.components) is))
-    (λ realm components. (bytes_eq-Decides (kt_name f p) (kt_name f q)).1 (named_alike f p q realm components))
+    (λ realm components. (bytes_eq-Decides (kt_name f p) (kt_name f q)).1 (grind (arith, realm, components)))

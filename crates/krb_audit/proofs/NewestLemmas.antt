@@ -27,10 +27,7 @@ found_by true name o x xs ys e same ih is = elim (ih (newer o x.1) is) [
   ]
   | inr found ↦ inr (behind name x xs e found)
 ]
-found_by false name o x xs ys e other ih is = elim (ih o is) [
-  | inl before ↦ inl before
-  | inr found ↦ inr (behind name x xs e found)
-]
+found_by false name o x xs ys e other ih is = search (arith, behind)
 
 found_in : (name : Parts) (o : Option EntryParts) (xs : List PlacedEntry) (e : EntryParts) → newest_from o (filter (λ x. have_same_name name x.1.principal) xs) ≡ Some e → Found name o xs e
 found_in name o [] e is = inl is
@@ -38,10 +35,7 @@ found_in name o (x ∷ xs) e is =
     found_by (have_same_name name x.1.principal) name o x xs (filter (λ y. have_same_name name y.1.principal) xs) e refl (λ o' h. found_in name o' xs e h) is
 
 pub newest_is : (name : Parts) (xs : List PlacedEntry) (e : EntryParts) → newest name xs ≡ Some e → HasEntry xs name e
-newest_is name xs e is = elim (found_in name None xs e is) [
-  | inl none ↦ absurd cc
-  | inr found ↦ found
-]
+newest_is name xs e is = search (arith, found_in)
 
 -- ---- a name that has an entry has a newest one
 
@@ -66,15 +60,7 @@ none_in x h = let lt = h.1 in absurd (omega (arith, lt))
 
 there : (name : Parts) (xs : List PlacedEntry) (x : PlacedEntry) → have_same_name name x.1.principal ≡ true → Contains xs x → IsThere (newest name xs)
 there name [] x same h = absurd (none_in x h)
-there name (y ∷ ys) x same h =
-    there_by (have_same_name name y.1.principal) None y (filter (λ z. have_same_name name z.1.principal) ys)
-    (λ other. elim (Contains-append_cases (y ∷ []) ys x h) [
-      | inl here ↦ elim (Contains-push_cases [] y x here) [
-        | inl none ↦ absurd (none_in x none)
-        | inr is ↦ grind (arith, is, same, other)
-      ]
-      | inr later ↦ there name ys x same later
-    ])
+there name (y ∷ ys) x same h = search (arith, there_by, Contains-append_cases, Contains-push_cases, none_in, there name ys x same)
 
 -- ---- and that is not old
 

@@ -1,5 +1,5 @@
 -- Rows, the entries that they are of, and lists with something at the number of each name.
-use Rattle.krb_audit.proofs.Cited.{◌≡◌, ℕ, Bool, cond, List, [], ◌∷◌, length, map, get_or, Option, Some, refl, ap, sym, ◌∙◌, arith, fold, subst, eqb-true, eq-eqb, All, PlacedEntry, Row, Stamp, AreRows, HasPlace, first_number, stamp_of, ◌==◌, set, drop, get_or-set_same, get_or-set_other, length-set, length-map, row_in, shown, All-head, All-tail}
+use Rattle.krb_audit.proofs.Cited.{◌≡◌, ℕ, Bool, cond, List, [], ◌∷◌, length, map, get_or, Option, Some, refl, ap, sym, ◌∙◌, arith, fold, subst, eqb-true, eq-eqb, All, PlacedEntry, Row, Stamp, AreRows, HasPlace, first_number, stamp_of, ◌==◌, set, drop, get_or-set_same, get_or-set_other, length-set, length-map, All-head, All-tail}
 
 -- a row is that of an entry among all
 pub record IsRow (all : List PlacedEntry) (x : PlacedEntry) (r : Row) : Type 0 where
@@ -7,9 +7,7 @@ pub record IsRow (all : List PlacedEntry) (x : PlacedEntry) (r : Row) : Type 0 w
   pub stamp : r.stamp ≡ stamp_of x.1
 
 head_row : (all xs : List PlacedEntry) (x : PlacedEntry) (r : Row) (rs : List Row) → AreRows all (x ∷ xs) (r ∷ rs) → IsRow all x r
-head_row all xs x r rs h =
-    let heads : shown r ≡ row_in all x = ap (λ (l : List (Option ℕ × Stamp)). get_or l 0 (shown r)) h in
-    record { first = sym (ap (λ (s : Option ℕ × Stamp). s.0) heads); stamp = ap (λ (s : Option ℕ × Stamp). s.1) heads }
+head_row all xs x r rs h = search arith
 
 other_rows : (all xs : List PlacedEntry) (x : PlacedEntry) (r : Row) (rs : List Row) → AreRows all (x ∷ xs) (r ∷ rs) → AreRows all xs rs
 other_rows all xs x r rs h = ap (λ (l : List (Option ℕ × Stamp)). drop 1 l) h

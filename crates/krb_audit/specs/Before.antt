@@ -1,5 +1,5 @@
 -- What is known before an entry of a keytab: the first entry of each name, kvno and enctype, in a map, and more.
-use Rattle.std.specs.Prelude.{◌≡◌, List, ◌++◌, ℕ, map, find, Bool, ◌&&◌, ◌==◌, Option, None, Some, option_map}
+use Rattle.std.specs.Prelude.{◌≡◌, List, ◌++◌, ℕ, find, Bool, ◌&&◌, ◌==◌, Option, None, Some, option_map}
 use Rattle.std.specs.List.{list_any}
 use Rattle.std.specs.Vec.Iter.{into_iter_items}
 use Rattle.krb_names.specs.Marks.{AreMarked}

@@ -60,10 +60,7 @@ pub fn next_mark<A: Allocator>(marks: &mut IntoIter<bool, A>) -> bool
         → AreMarks kvno now all (x ∷ rest) (into_iter_items marks.old)
         → (result ≡ has_selected_kvno kvno now all x.1) × AreMarks kvno now all rest (into_iter_items marks.new) }
 {
-    match marks.next() {
-        Some(next) => next,
-        None => false,
-    }
+    marks.next().unwrap_or(false)
 }
 
 /// The selected kvnos, for a pass over the entries of a keytab.

@@ -19,20 +19,14 @@ pub(crate) fn is_open(mode: u32) -> bool
 pub fn is_open_file(mode: Option<u32>) -> bool
     ensures { result ≡ has_mode is_open mode }
 {
-    match mode {
-        Some(mode) => is_open(mode),
-        None => false,
-    }
+    mode.is_some_and(|mode| is_open(mode))
 }
 
 /// Returns whether others may read or write the plain file.
 pub(crate) fn is_open_to_all(mode: Option<u32>) -> bool
     ensures { result ≡ has_mode is_open_to_all mode }
 {
-    match mode {
-        Some(mode) => mode & 0o6 != 0,
-        None => false,
-    }
+    mode.is_some_and(|mode| mode & 0o6 != 0)
 }
 
 // Appends a number in octal without leading zeros: at most its last `places` digits.

@@ -92,8 +92,6 @@ pub fn newest_stamps<A: Allocator + Copy>(
 pub fn is_old(newest: &[Option<Stamp>], row: Row) -> bool
     ensures { result ≡ is_old_row newest.now row }
 {
-    match newest.get(row.first as usize) {
-        Some(Some(newest)) => row.stamp.kvno != newest.kvno,
-        _ => false,
-    }
+    let newest = newest.get(row.first as usize).copied().unwrap_or(None);
+    newest.is_some_and(|newest| row.stamp.kvno != newest.kvno)
 }

@@ -102,8 +102,5 @@ pub fn next_number<A: Allocator>(rows: &mut IntoIter<Row, A>) -> u32
     ensures { (all rest : List PlacedEntry) (x : PlacedEntry) → AreRows all (x ∷ rest) (into_iter_items rows.old)
         → (first_number x.1.principal all ≡ Some result) × AreRows all rest (into_iter_items rows.new) }
 {
-    match rows.next() {
-        Some(row) => row.first,
-        None => 0,
-    }
+    rows.next().map_or(0, |row| row.first)
 }

@@ -7,7 +7,7 @@ pub use Rattle.std.proofs.lemmas.List.Folds.{list_any-append, flat_map-map, find
 pub use Rattle.std.specs.List.{list_any, AllByRecursion, flat_map, find, cons_option, filter_map, join_with_byte, All, position_from}
 pub use Rattle.std.specs.Prelude.{map, ◌||◌, filter, ◌==◌, ◌&&◌, not, ⊤, unwrap_or, option_map, is_some, codes, fold, replicate, set}
 pub use Rattle.std.specs.Str.{bytes_eq}
-pub use Rattle.krb_copy.specs.Classes.{ClassKey, AreClasses, class_cmp, IsClassKey, kind_of, has_among, emptiness, step_at, HaveClass, places_of, stays, has_key, IsClass}
+pub use Rattle.krb_copy.specs.Classes.{ClassKey, AreClasses, IsClassKey, kind_of, has_among, emptiness, step_at, HaveClass, places_of, stays, has_key, IsClass}
 pub use Rattle.krb_copy.specs.Copying.{run_over, as_found, asked_as, renamed, step_of, Copy, Held, run_start, Clash, Run, There, with_copy, run_after, go_on, has_lines, run_added, as_copied, Step, twins, step_among, is_kept, copied_lines, clash_line}
 pub use Rattle.krb_copy.specs.Laws.{IsInPlace, AllStay, OthersStay, changes_of, Has, NothingElse, GoesByItsEntries, AreEntries, ChangesAreReported, SecondDoesNothing, changes_over, AreHistories, HasEachAsked}
 pub use Rattle.krb_copy.specs.Made.{IsRun, IsMade, name_in, IsRefusal, IsRefusedBy, EndsBy, Meets, Ends}
@@ -33,6 +33,7 @@ pub use Rattle.krb_walk.specs.Rules.{Rules, PutGives}
 pub use Rattle.krb_copy.specs.DiffRows.{IsNumbering, shown, first_place, row_line, AreKeys, lacks, rows_due, to_key, marked, AreNumbers, class_number, row_due}
 pub use Rattle.std.proofs.lemmas.Slice.Eq.{bytes_eq-Decides}
 pub use Rattle.krb_names.proofs.NameOrder.{names_tie}
+pub use Rattle.krb_names.specs.Hash.{name_cmp}
 pub use Rattle.std.proofs.lemmas.Cmp.{nat_list_eq_equiv, nat_eq_equiv, on_equiv, and_equiv}
 pub use Rattle.krb_copy.specs.DiffLaws.{ReportsNothing, AreMirrored, NoDifference, swapped}
 pub use Rattle.krb_text.proofs.Found.{any_of_map}

@@ -1,5 +1,5 @@
 -- Entries are twins iff their keys in a map compare equal.
-use Rattle.krb_copy.proofs.Cited.{◌≡◌, ℕ, ◌+◌, ◌<◌, Bool, true, cond, List, [], ◌∷◌, ◌++◌, length, None, refl, sym, ap, subst, ◌∙◌, arith, ◌&&◌, ◌==◌, map, bytes_eq, name_text, EntryParts, are_twins, ClassKey, ◌*◌, ◌/◌, join_with_byte, eqb-true, eq-eqb, IsClassKey, class_cmp, emptiness, kind_of, bytes_eq-Decides, Parts, ok_is, names_tie}
+use Rattle.krb_copy.proofs.Cited.{◌≡◌, ℕ, ◌+◌, ◌<◌, Bool, true, cond, List, [], ◌∷◌, ◌++◌, length, None, refl, sym, ap, subst, ◌∙◌, arith, ◌&&◌, ◌==◌, map, bytes_eq, name_text, EntryParts, are_twins, ClassKey, ◌/◌, join_with_byte, eqb-true, eq-eqb, IsClassKey, name_cmp, emptiness, kind_of, bytes_eq-Decides, Parts, ok_is, names_tie}
 use Rattle.std.specs.Ordering.{is_eq}
 use Rattle.std.proofs.lemmas.Bool.Decides.{nat_tests}
 use Rattle.krb_wire.specs.Names.{joined_components, quote, have_same_name}
@@ -53,22 +53,15 @@ names_agree p q = same_name_is p q (emptiness p == emptiness q && bytes_eq (name
     (λ realm components. both_and _ _ (eq-eqb _ _ (ap bit_of components))
     ((bytes_eq-Decides (name_text p) (name_text q)).1 (ap (λ (r : List ℕ). name_text (record p { realm = r })) realm ∙ ap (λ (cs : List (List ℕ)). name_text (record q { components = cs })) components)))
 
-regroup : (k n t : Bool) → ((k && n) && t) ≡ ((n && t) && k)
-regroup k n t = grind arith
-
 -- equal texts have equal hashes, which leave the kinds to be compared
 drop_hash : (h g a b : ℕ) (t : Bool) → (t ≡ true → h ≡ g) → ((h + a == g + b) && t) ≡ ((a == b) && t)
 drop_hash h g a b t same = grind (arith, nat_tests)
 
-bit_small : (cs : List (List ℕ)) → bit_of cs < 2
-bit_small cs = grind (arith, nat_tests)
-
--- a version, an enctype of 16 bits and a bit are equal iff they are as one number
-kinds_agree : (v e w f a b : ℕ) → e < 65536 → f < 65536 → a < 2 → b < 2 → ((v * 65536 + e) * 2 + a == (w * 65536 + f) * 2 + b) ≡ ((v == w && e == f) && a == b)
-kinds_agree v e w f a b small other bit bit' = grind (arith, nat_tests)
+regroup : (k n t : Bool) → ((k && n) && t) ≡ ((n && t) && k)
+regroup k n t = grind arith
 
 -- entries are twins iff their keys compare equal
-pub classes_agree : (x y : EntryParts) (k l : ClassKey) → IsClassKey x k → IsClassKey y l → is_eq (class_cmp k l) ≡ are_twins x y
+pub classes_agree : (x y : EntryParts) (k l : ClassKey) → IsClassKey x k → IsClassKey y l → is_eq (name_cmp k l) ≡ are_twins x y
 classes_agree x y k l of_x of_y =
     let p = x.principal in
     let q = y.principal in
@@ -78,6 +71,6 @@ classes_agree x y k l of_x of_y =
     ∙ rw (of_x.number, of_x.name, of_y.number, of_y.name)
     (drop_hash (hash_of (name_text p) / 32768) (hash_of (name_text q) / 32768) (kind_of x) (kind_of y) same_text
     (λ same. ap (λ (t : List ℕ). hash_of t / 32768) ((bytes_eq-Decides (name_text p) (name_text q)).0 same))
-    ∙ ap (λ (b : Bool). b && same_text) (kinds_agree x.version x.enctype y.version y.enctype (emptiness p) (emptiness q) of_x.small of_y.small (bit_small p.components) (bit_small q.components))
+    ∙ ap (λ (b : Bool). b && same_text) (grind (arith, nat_tests))
     ∙ regroup same_kind (emptiness p == emptiness q) same_text
     ∙ ap (λ (b : Bool). b && same_kind) (names_agree p q))

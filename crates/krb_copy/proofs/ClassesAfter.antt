@@ -1,9 +1,7 @@
 -- What is known of all classes, before a run and after each entry asked for.
-use Rattle.krb_copy.proofs.Cited.{◌≡◌, ℕ, Bool, true, false, cond, List, [], ◌∷◌, ◌++◌, Option, Some, None, refl, arith, sym, ap, subst, ◌∙◌, map, filter, not, ◌&&◌, ◌||◌, list_any, bytes_eq, append-nil, list_any-append, EntryParts, are_twins, are_same, Held, as_found, as_copied, twins, There, Clash, step_among, step_of, with_copy, AreClasses, ClassKey, unwrap_or, map_push, is_kept, HaveClass, IsClass, IsClassKey, class_cmp, has_key, places_of, stays, step_at, BTreeMap, get, Updates, not-and_self, or_assoc, or-false, or-true, filter-append, Bor, Class, Empty, One}
+use Rattle.krb_copy.proofs.Cited.{◌≡◌, ℕ, Bool, true, false, cond, List, [], ◌∷◌, ◌++◌, Option, Some, refl, arith, sym, ap, subst, ◌∙◌, map, filter, ◌||◌, list_any, bytes_eq, append-nil, list_any-append, EntryParts, are_twins, are_same, Held, as_found, as_copied, twins, There, Clash, step_of, with_copy, AreClasses, ClassKey, unwrap_or, map_push, is_kept, HaveClass, IsClass, IsClassKey, name_cmp, has_key, places_of, stays, step_at, BTreeMap, get, Updates, or_assoc, or-false, or-true, filter-append, Bor, Class, Empty, One}
 use Rattle.krb_copy.proofs.Alike.{alike, apart, twins_equiv}
-use Rattle.krb_copy.proofs.Passing.{any_either, any_left, filter_twice}
 use Rattle.krb_copy.proofs.ClassKeys.{classes_agree}
-use Rattle.krb_copy.proofs.LawLemmas.{there_by}
 
 -- ---- the twins of an entry
 
@@ -17,48 +15,25 @@ kept_after before x h = rw (list_any-append (λ a. are_same a h.entry) before (x
 
 -- of its own twins
 kept_twins : (before : List EntryParts) (x : EntryParts) (held : List Held) → list_any (is_kept (before ++ x ∷ [])) (twins x held) ≡ (list_any (is_kept before) (twins x held) || list_any (λ h. bytes_eq x.key h.entry.key) (twins x held))
-kept_twins before x held =
-    let t : Held → Bool = λ h. are_twins x h.entry in
-    let key : Held → Bool = λ h. bytes_eq x.key h.entry.key in
-    rw (any_left t (is_kept (before ++ x ∷ [])) held, any_left t (is_kept before) held, any_left t key held)
-    (ap (λ (q : Held → Bool). list_any q held) (λ i h. (ap (λ (b : Bool). t h && b) (kept_after before x h) ∙ by (t h) (is_kept before h) (key h)) i) ∙ any_either (λ h. t h && is_kept before h) (λ h. t h && key h) held)
-  where
-    by : (t k s : Bool) → (t && (k || (t && s))) ≡ ((t && k) || (t && s))
-    by t k s = grind arith
+kept_twins before x [] = refl
+kept_twins before x (h ∷ held) = grind (arith, kept_after before x h, kept_twins before x held)
 
 -- it changes nothing for others
 kept_others : (before : List EntryParts) (x y : EntryParts) (held : List Held) → are_twins x y ≡ false → list_any (is_kept (before ++ x ∷ [])) (twins y held) ≡ list_any (is_kept before) (twins y held)
-kept_others before x y held other =
-    let t : Held → Bool = λ h. are_twins y h.entry in
-    rw (any_left t (is_kept (before ++ x ∷ [])) held, any_left t (is_kept before) held)
-    (ap (λ (q : Held → Bool). list_any q held) (λ i h. (ap (λ (b : Bool). t h && b) (kept_after before x h) ∙ by (t h) (is_kept before h) (are_twins x h.entry) _ (apart x y h.entry other)) i))
-  where
-    by : (t k u s : Bool) → (t ≡ true → u ≡ false) → (t && (k || (u && s))) ≡ (t && k)
-    by t k u s other = grind arith
+kept_others before x y [] other = refl
+kept_others before x y (h ∷ held) other = grind (arith, kept_after before x h, apart x y h.entry other, kept_others before x y held other)
 
 -- twins have the same twins
 same_twins : (x y : EntryParts) (held : List Held) → are_twins x y ≡ true → twins x held ≡ twins y held
 same_twins x y held twin = ap (λ (t : EntryParts → Bool). filter (λ h. t h.entry) held) (alike x y twin)
 
-filter_none : (held : List Held) → filter (λ h. false) held ≡ []
-filter_none [] = refl
-filter_none (h ∷ hs) = filter_none hs
-
-gone : (x y : EntryParts) (held : List Held) → are_twins x y ≡ true → twins y (filter (λ h. not (are_twins x h.entry)) held) ≡ []
-gone x y held twin = ap (λ (t : EntryParts → Bool). twins y (filter (λ h. not (t h.entry)) held)) (alike x y twin)
-    ∙ filter_twice (λ h. not (are_twins y h.entry)) (λ h. are_twins y h.entry) held ∙ ap (λ (q : Held → Bool). filter q held) (λ i h. not-and_self (are_twins y h.entry) i) ∙ filter_none held
-
-left : (x y : EntryParts) (held : List Held) → are_twins x y ≡ false → twins y (filter (λ h. not (are_twins x h.entry)) held) ≡ twins y held
-left x y held other = filter_twice (λ h. not (are_twins x h.entry)) (λ h. are_twins y h.entry) held ∙ ap (λ (q : Held → Bool). filter q held) (λ i h. by (are_twins x h.entry) (are_twins y h.entry) (apart x y h.entry other) i)
-  where
-    by : (t s : Bool) → (s ≡ true → t ≡ false) → (not t && s) ≡ s
-    by t s other = grind arith
-
 copy_alone : (x y : EntryParts) (held : List Held) (place : ℕ) → are_twins x y ≡ true → twins y (with_copy held x place) ≡ as_copied place x ∷ []
-copy_alone x y held place twin = twins_more y (filter (λ h. not (are_twins x h.entry)) held) (as_copied place x) true (twins_equiv.symm y x ∙ twin) ∙ ap (λ (hs : List Held). hs ++ as_copied place x ∷ []) (gone x y held twin)
+copy_alone x y [] place twin = grind (arith, twins_equiv.symm y x)
+copy_alone x y (h ∷ held) place twin = grind (arith, twins_equiv.congr x y h.entry twin, copy_alone x y held place twin)
 
 copy_apart : (x y : EntryParts) (held : List Held) (place : ℕ) → are_twins x y ≡ false → twins y (with_copy held x place) ≡ twins y held
-copy_apart x y held place other = twins_more y (filter (λ h. not (are_twins x h.entry)) held) (as_copied place x) false (twins_equiv.symm y x ∙ other) ∙ append-nil (twins y (filter (λ h. not (are_twins x h.entry)) held)) ∙ left x y held other
+copy_apart x y [] place other = grind (arith, twins_equiv.symm y x)
+copy_apart x y (h ∷ held) place other = grind (arith, apart x y h.entry other, copy_apart x y held place other)
 
 -- ---- one class
 
@@ -68,30 +43,7 @@ or_added old b = grind arith
 
 -- of one entry
 of_one : {A : Type 0} (before : List EntryParts) (h : Held) (key : Bor (List ℕ)) (c : Class A) → places_of c ≡ h.place ∷ [] → ((k : List ℕ) → has_key c k ≡ bytes_eq k key.now) → key.now ≡ h.entry.key → stays c ≡ is_kept before h → IsClass before (h ∷ []) c
-of_one before h key c places keys key_is kept = record {
-  places = places;
-  keys = λ k. keys k ∙ ap (bytes_eq k) key_is ∙ sym (or-false (bytes_eq k h.entry.key));
-  kept = kept ∙ sym (or-false (is_kept before h));
-}
-
--- of one entry more, which does not stay
-of_more : {A : Type 0} (before : List EntryParts) (held : List Held) (h : Held) (key : Bor (List ℕ)) (old new : Class A) → IsClass before held old → places_of new ≡ places_of old ++ h.place ∷ []
-    → ((k : List ℕ) → has_key new k ≡ (has_key old k || bytes_eq k key.now)) → key.now ≡ h.entry.key → stays new ≡ stays old → is_kept before h ≡ false → IsClass before (held ++ h ∷ []) new
-of_more before held h key old new c places keys key_is same goes = record {
-  places = places ∙ ap (λ (ps : List ℕ). ps ++ h.place ∷ []) c.places ∙ sym (map_push (λ (g : Held). g.place) held h);
-  keys = λ k. keys k ∙ ap (λ (b : Bool). b || bytes_eq k key.now) (c.keys k) ∙ ap (λ (b : List ℕ). list_any (λ g. bytes_eq k g.entry.key) held || bytes_eq k b) key_is
-      ∙ ap (λ (b : Bool). list_any (λ g. bytes_eq k g.entry.key) held || b) (sym (or-false (bytes_eq k h.entry.key))) ∙ sym (list_any-append (λ g. bytes_eq k g.entry.key) held (h ∷ []));
-  kept = same ∙ c.kept ∙ sym (list_any-append (is_kept before) held (h ∷ []) ∙ ap (λ (b : Bool). list_any (is_kept before) held || (b || false)) goes ∙ or-false (list_any (is_kept before) held));
-}
-
--- of the same entries, and one stays iff one stayed before
-unchanged : {A : Type 0} (before before' : List EntryParts) (held held' : List Held) (o : Option (Class A)) → held' ≡ held → list_any (is_kept before') held ≡ list_any (is_kept before) held → HaveClass before held o → HaveClass before' held' o
-unchanged before before' held held' None same same_kept none = same ∙ none
-unchanged before before' held held' (Some c) same same_kept is = record {
-  places = is.places ∙ ap (map (λ (h : Held). h.place)) (sym same);
-  keys = λ k. is.keys k ∙ ap (list_any (λ h. bytes_eq k h.entry.key)) (sym same);
-  kept = is.kept ∙ sym same_kept ∙ ap (list_any (is_kept before')) (sym same);
-}
+of_one before h key c places keys key_is kept = search (arith, or-false)
 
 -- ---- one class of all
 
@@ -101,12 +53,7 @@ Leaves before before' held held' x = (y : EntryParts) → are_twins x y ≡ fals
 
 updated_by : {A : Type 0} (before before' : List EntryParts) (held held' : List Held) (x y : EntryParts) (c : Class A) (o : Option (Class A)) (t : Bool) → are_twins x y ≡ t → IsClass before' (twins x held') c → Leaves before before' held held' x
     → HaveClass before (twins y held) o → HaveClass before' (twins y held') (cond t (Some c) o)
-updated_by before before' held held' x y c o true twin is leaves old = subst (λ (hs : List Held). IsClass before' hs c) (same_twins x y held' twin) is
-updated_by before before' held held' x y c o false apart is leaves old = let l = leaves y apart in unchanged before before' (twins y held) (twins y held') o l.0 l.1 old
-
--- one more entry leaves other classes
-found_leaves : (held : List Held) (x : EntryParts) (place : ℕ) → Leaves [] [] held (held ++ as_found (place, x) ∷ []) x
-found_leaves held x place y apart = (twins_more y held (as_found (place, x)) false (twins_equiv.symm y x ∙ apart) ∙ append-nil (twins y held), refl)
+updated_by before before' held held' x y c o t apart is leaves old = search (arith, same_twins, apart)
 
 -- it leaves what stays of other classes
 asked_leaves : (before : List EntryParts) (held : List Held) (x : EntryParts) → Leaves before (before ++ x ∷ []) held held x
@@ -120,49 +67,35 @@ pub record IsMet {A : Type 0} (before : List EntryParts) (held : List Held) (x :
   pub of_x : IsClassKey x k
   pub is : IsClass before (twins x held) class
 
--- without twins it is empty
-or_empty : {A : Type 0} (before : List EntryParts) (held : List Held) (o : Option (Class A)) → HaveClass before held o → IsClass before held (unwrap_or o Empty)
-or_empty {A} before held None none = subst (λ (hs : List Held). IsClass {A = A} before hs Empty) (sym none) (record { places = refl; keys = λ k. refl; kept = refl })
-or_empty before held (Some c) is = is
-
 -- by what the map has at its key
-pub met : {A : Type 0} {value : Option (Class A)} (before : List EntryParts) (held : List Held) (x : EntryParts) (k : ClassKey) (m : BTreeMap ClassKey (Class A)) (c : Class A) → AreClasses before held m → IsClassKey x k → value ≡ get class_cmp m k → c ≡ unwrap_or value Empty → IsMet before held x k m c
-met before held x k m c classes of_x found is = record { classes = classes; of_x = of_x; is = subst (IsClass before (twins x held)) (sym is) (or_empty before (twins x held) _ (subst (HaveClass before (twins x held)) (sym found) (classes x k of_x))) }
-
-at_places : (replace : Bool) (before : List EntryParts) (ts : List Held) → step_at replace (list_any (is_kept before) ts) (map (λ h. h.place) ts) ≡ step_among replace before ts
-at_places replace before [] = refl
-at_places replace before (t ∷ ts) = refl
+pub met : {A : Type 0} {value : Option (Class A)} (before : List EntryParts) (held : List Held) (x : EntryParts) (k : ClassKey) (m : BTreeMap ClassKey (Class A)) (c : Class A) → AreClasses before held m → IsClassKey x k → value ≡ get name_cmp m k → c ≡ unwrap_or value Empty → IsMet before held x k m c
+met before held x k m c classes of_x found is = record { classes = classes; of_x = of_x; is = subst (IsClass before (twins x held)) (sym is) (search arith) }
 
 -- by the class of its twins
 step_by : (replace : Bool) (before : List EntryParts) (held : List Held) (x : EntryParts) (b stays : Bool) (places : List ℕ) → b ≡ list_any (λ h. bytes_eq x.key h.entry.key) (twins x held) → stays ≡ list_any (is_kept before) (twins x held)
     → places ≡ map (λ h. h.place) (twins x held) → cond b There (step_at replace stays places) ≡ step_of replace before held x
-step_by replace before held x b stays places keys kept are = rw (keys, kept, are) (ap (cond (list_any (λ h. bytes_eq x.key h.entry.key) (twins x held)) There) (at_places replace before (twins x held)))
+step_by replace before held x b stays places keys kept are = rw (keys, kept, are) (ap (cond (list_any (λ h. bytes_eq x.key h.entry.key) (twins x held)) There) (search arith))
 
 pub step_is : {A : Type 0} {before : List EntryParts} {held : List Held} {x : EntryParts} {k : ClassKey} {old : BTreeMap ClassKey (Class A)} {c : Class A} (replace : Bool) (key : List ℕ) → IsMet before held x k old c → key ≡ x.key → cond (has_key c key) There (step_at replace (stays c) (places_of c)) ≡ step_of replace before held x
 step_is {A} {before} {held} {x} {k} {old} {c} replace key m same = step_by replace before held x (has_key c key) (stays c) (places_of c) (ap (has_key c) same ∙ m.is.keys x.key) m.is.kept m.is.places
 
--- an entry that clashes is not there
-clash_step : (b replace : Bool) (before : List EntryParts) (hs : List Held) (place : ℕ) → cond b There (step_among replace before hs) ≡ Clash place → b ≡ false
-clash_step b replace before [] place e = grind arith
-clash_step b replace before (h ∷ hs) place e = grind arith
-
 not_there : (replace : Bool) (before : List EntryParts) (held : List Held) (x : EntryParts) (place : ℕ) → step_of replace before held x ≡ Clash place → list_any (λ h. bytes_eq x.key h.entry.key) (twins x held) ≡ false
-not_there replace before held x place e = clash_step (list_any (λ h. bytes_eq x.key h.entry.key) (twins x held)) replace before (twins x held) place e
+not_there replace before held x place e = search arith
 
 -- ---- after an entry
 
 -- a map in which its class is set
-module _ {A : Type 0} {before : List EntryParts} {held : List Held} {x : EntryParts} {k : ClassKey} {old new after : BTreeMap ClassKey (Class A)} {was : Class A} (c : Class A) (m : IsMet before held x k old was) (same : after ≡ new) (updates : Updates class_cmp old new k (Some c)) where
+module _ {A : Type 0} {before : List EntryParts} {held : List Held} {x : EntryParts} {k : ClassKey} {old new after : BTreeMap ClassKey (Class A)} {was : Class A} (c : Class A) (m : IsMet before held x k old was) (same : after ≡ new) (updates : Updates name_cmp old new k (Some c)) where
   -- others stay
   updated : (before' : List EntryParts) (held' : List Held) → IsClass before' (twins x held') c → Leaves before before' held held' x → AreClasses before' held' after
   updated before' held' is leaves y q of_y =
-      subst (HaveClass before' (twins y held')) (sym (ap (λ n. get class_cmp n q) same ∙ updates.0 q ∙ ap (λ (b : Bool). cond b (Some c) (get class_cmp old q)) (classes_agree x y k q m.of_x of_y)))
-      (updated_by before before' held held' x y c (get class_cmp old q) (are_twins x y) refl is leaves (m.classes y q of_y))
+      subst (HaveClass before' (twins y held')) (sym (ap (λ n. get name_cmp n q) same ∙ updates.0 q ∙ ap (λ (b : Bool). cond b (Some c) (get name_cmp old q)) (classes_agree x y k q m.of_x of_y)))
+      (updated_by before before' held held' x y c (get name_cmp old q) (are_twins x y) refl is leaves (m.classes y q of_y))
 
   -- it is there: one of its class stays
   pub after_there : (replace : Bool) → There ≡ step_of replace before held x → places_of c ≡ places_of was → ((key : List ℕ) → has_key c key ≡ has_key was key) → ((key : List ℕ) → has_key was key ≡ true → stays c ≡ true) → AreClasses (before ++ x ∷ []) held after
   after_there replace step places keys kept =
-      let there = there_by (list_any (λ h. bytes_eq x.key h.entry.key) (twins x held)) replace before (twins x held) (sym step) in
+      let there : list_any (λ h. bytes_eq x.key h.entry.key) (twins x held) ≡ true = search (arith, step) in
       let one_stays : list_any (is_kept (before ++ x ∷ [])) (twins x held) ≡ true = kept_twins before x held ∙ ap (λ (b : Bool). list_any (is_kept before) (twins x held) || b) there ∙ or-true (list_any (is_kept before) (twins x held)) in
       updated (before ++ x ∷ []) held (record { places = places ∙ m.is.places; keys = λ key. keys key ∙ m.is.keys key; kept = kept x.key (m.is.keys x.key ∙ there) ∙ sym one_stays }) (asked_leaves before held x)
 
@@ -180,8 +113,9 @@ module _ {A : Type 0} {before : List EntryParts} {held : List Held} {x : EntryPa
       (λ y apart. (copy_apart x y held place apart, kept_others before x y held apart))
 
 -- it was there before the run
-pub one_found : {A : Type 0} {held : List Held} {x : EntryParts} {k : ClassKey} {old new after : BTreeMap ClassKey (Class A)} {was : Class A} (c : Class A) (place : ℕ) (key : Bor (List ℕ)) → IsMet [] held x k old was → after ≡ new → Updates class_cmp old new k (Some c)
+pub one_found : {A : Type 0} {held : List Held} {x : EntryParts} {k : ClassKey} {old new after : BTreeMap ClassKey (Class A)} {was : Class A} (c : Class A) (place : ℕ) (key : Bor (List ℕ)) → IsMet [] held x k old was → after ≡ new → Updates name_cmp old new k (Some c)
     → key.now ≡ x.key → places_of c ≡ places_of was ++ place ∷ [] → ((k : List ℕ) → has_key c k ≡ (has_key was k || bytes_eq k key.now)) → stays c ≡ stays was → AreClasses [] (held ++ as_found (place, x) ∷ []) after
 one_found {A} {held} {x} {k} {old} {new} {after} {was} c place key m same updates key_is places keys kept =
     let h = as_found (place, x) in
-    updated c m same updates [] (held ++ h ∷ []) (subst (λ (hs : List Held). IsClass [] hs c) (sym (twins_more x held h true (twins_equiv.refl x))) (of_more [] (twins x held) h key was c m.is places keys key_is kept refl)) (found_leaves held x place)
+    updated c m same updates [] (held ++ h ∷ []) (subst (λ (hs : List Held). IsClass [] hs c) (sym (twins_more x held h true (twins_equiv.refl x))) (search (arith, map_push, or-false, list_any-append)))
+    (λ y apart. (twins_more y held h false (twins_equiv.symm y x ∙ apart) ∙ append-nil (twins y held), refl))

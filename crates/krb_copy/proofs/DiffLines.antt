@@ -1,5 +1,5 @@
 -- The lines of rows are those of differences.
-use Rattle.krb_copy.proofs.Cited.{◌≡◌, ℕ, ◌<◌, Bool, true, cond, List, [], ◌∷◌, ◌++◌, length, get_or, drop, Option, Some, None, refl, sym, ap, subst, ◌∙◌, arith, map, ◌||◌, ◌&&◌, not, ◌==◌, option_map, bytes_eq, list_any, flat_map, filter_map, find, eqb-true, eq-eqb, EntryParts, PlacedEntry, are_twins, codes, All, AllByRecursion, flat_map-append, All-from_recursion, flat_map-map, placed_line, Keys, Row}
+use Rattle.krb_copy.proofs.Cited.{◌≡◌, ℕ, ◌<◌, Bool, true, cond, List, [], ◌∷◌, ◌++◌, length, get_or, drop, Option, Some, None, refl, sym, ap, subst, ◌∙◌, arith, map, ◌||◌, ◌&&◌, not, ◌==◌, option_map, bytes_eq, list_any, flat_map, filter_map, find, eqb-true, eq-eqb, EntryParts, PlacedEntry, are_twins, are_same, codes, All, AllByRecursion, flat_map-append, All-from_recursion, flat_map-map, placed_line, Keys, Row}
 use Rattle.krb_copy.specs.Diff.{Difference, Theirs, diff_text, difference_at, difference_by, difference_line, firsts, has_more_keys, has_twin}
 use Rattle.krb_copy.specs.DiffRows.{AreKeys, class_number, first_place, has_key, lacks, row_due, row_line, rows_due, shown}
 use Rattle.krb_copy.proofs.Alike.{alike, twins_equiv}
@@ -48,19 +48,14 @@ module _ (all : List PlacedEntry) (x : EntryParts) (n : ℕ) (of_x : class_numbe
   -- its keys that the others lack
   pub lacks_is : {A : Type 0} (before zs others_before others : List PlacedEntry) (rows other_rows : List Row) (keys : Keys A) → AreRows all before zs rows → AreRows all others_before others other_rows → AreKeys other_rows keys → lacks keys n rows ≡ has_more_keys x zs others
   lacks_is before zs others_before others rows other_rows keys h other_h are =
-      any_rows (λ e. not (has_key keys n e.key)) before zs rows h ∙ ap (λ (q : PlacedEntry → Bool). list_any q zs) (λ i a. by (are_twins x a.1) (has_key keys n a.1.key) _ (λ twin.
-      are.have n a.1.key ∙ any_rows (λ e. bytes_eq a.1.key e.key) others_before others other_rows other_h
-      ∙ ap (λ (t : EntryParts → Bool). list_any (λ b. t b.1 && bytes_eq a.1.key b.1.key) others) (alike x a.1 twin)) i)
-    where
-      by : (t b c : Bool) → (t ≡ true → b ≡ c) → (t && not b) ≡ (t && not c)
-      by t b c same = grind arith
+      any_rows (λ e. not (has_key keys n e.key)) before zs rows h ∙ ap (λ (q : PlacedEntry → Bool). list_any q zs) (λ i a. (
+      let key = are.have n a.1.key ∙ any_rows (λ e. bytes_eq a.1.key e.key) others_before others other_rows other_h in
+      let twins : are_twins x a.1 ≡ true → list_any (λ b. are_twins x b.1 && bytes_eq a.1.key b.1.key) others ≡ list_any (λ b. are_same a.1 b.1) others = λ twin. ap (λ (t : EntryParts → Bool). list_any (λ b. t b.1 && bytes_eq a.1.key b.1.key) others) (alike x a.1 twin) in
+      let both : (are_twins x a.1 && not (has_key keys n a.1.key)) ≡ (are_twins x a.1 && not (list_any (λ b. are_same a.1 b.1) others)) = grind (arith, key, twins) in both) i)
 
   pub place_is : {A : Type 0} (before zs : List PlacedEntry) (rows : List Row) (keys : Keys A) → AreRows all before zs rows → AreKeys rows keys → first_place keys n ≡ option_map (λ y. y.0) (find (λ y. are_twins x y.1) zs)
   place_is before zs rows keys h are = are.firsts n ∙ by_rows all (λ before zs rows. option_map (λ r. r.place) (find (λ r. r.number == n) rows) ≡ option_map (λ y. y.0) (find (λ y. are_twins x y.1) zs)) (λ before. refl)
-      (λ before zs r rs number first rest. by r _ _ (are_twins x r.entry.now) (numbers_agree x r.entry.now all n r.number of_x number) rest) before zs rows h
-    where
-      by : (r : Row) (o : Option Row) (p : Option PlacedEntry) (t : Bool) → (r.number == n) ≡ t → option_map (λ s. s.place) o ≡ option_map (λ y. y.0) p → option_map (λ s. s.place) (cond (r.number == n) (Some r) o) ≡ option_map (λ y. y.0) (cond t (Some (r.place, r.entry.now)) p)
-      by r o p t e rest = grind arith
+      (λ before zs r rs number first rest. grind (arith, numbers_agree x r.entry.now all n r.number of_x number, rest)) before zs rows h
 
 -- ---- lines
 
@@ -80,10 +75,7 @@ lines_of_some d (z ∷ zs) = grind (arith, lines_of_some d zs)
 first_lines : (all : List PlacedEntry) (line : Row → List ℕ) (due : PlacedEntry → List ℕ) → ((r : Row) → class_number r.entry.now all ≡ Some r.number → line r ≡ due (r.place, r.entry.now)) → (before zs : List PlacedEntry) (rows : List Row) → AreRows all before zs rows
     → flat_map (λ r. cond r.is_first (line r) []) rows ≡ flat_map due (firsts before zs)
 first_lines all line due each = by_rows all (λ before zs rows. flat_map (λ r. cond r.is_first (line r) []) rows ≡ flat_map due (firsts before zs)) (λ before. refl)
-    (λ before zs r rs number first rest. let same = each r number in by (has_twin r.entry.now before) r (firsts (before ++ (r.place, r.entry.now) ∷ []) zs) _ first same rest)
-  where
-    by : (t : Bool) (r : Row) (zs : List PlacedEntry) (ls : List ℕ) → r.is_first ≡ not t → line r ≡ due (r.place, r.entry.now) → ls ≡ flat_map due zs → cond r.is_first (line r) [] ++ ls ≡ flat_map due (cond t [] ((r.place, r.entry.now) ∷ []) ++ zs)
-    by t r zs ls first same rest = grind arith
+    (λ before zs r rs number first rest. grind (arith, each r number, first, rest))
 
 -- all lines
 pub all_lines : {A B : Type 0} (xs ys : List PlacedEntry) (ours others : List Row) (our_keys : Keys A) (other_keys : Keys B) (differ : ℕ → Bool) → AreRows (xs ++ ys) [] xs ours → AreRows (xs ++ ys) xs ys others → AreKeys ours our_keys → AreKeys others other_keys

@@ -2,7 +2,7 @@
 use Rattle.krb_copy.proofs.Cited.{◌≡◌, Bool, true, false, cond, List, [], ◌∷◌, ◌++◌, length, Option, Some, None, refl, arith, sym, ap, subst, ◌∙◌, append-nil, append_assoc, map, ◌||◌, ◌&&◌, not, list_any, list_any-append, filter_map, cons_option, flat_map, find, inl, inr, option_map, is_some, EntryParts, PlacedEntry, placed_entries, are_twins, are_same, and-false, or_comm, or-false, not-false, or_cases, or_left, or_right, or_parts, nil_from_length, filter_map-append, AreMirrored, NoDifference, swapped}
 use Rattle.std.specs.List.Sorted.{IsPermutation}
 use Rattle.std.proofs.lemmas.List.Sorted.{IsPermutation-append_comm, IsPermutation-append_left, IsPermutation-append_right, IsPermutation-refl, IsPermutation-trans, length_permutation}
-use Rattle.krb_copy.specs.Diff.{Difference, Both, Ours, Theirs, diff_text, difference_at, difference_by, difference_line, differences, firsts, has_more_keys, has_twin}
+use Rattle.krb_copy.specs.Diff.{Difference, Both, Ours, Theirs, diff_text, difference_at, difference_line, differences, firsts, has_more_keys, has_twin}
 use Rattle.krb_copy.proofs.Passing.{any_found}
 use Rattle.krb_copy.proofs.Alike.{twins_equiv, alike, same_are_twins}
 use Rattle.krb_copy.proofs.Silent.{HasAll, reported_nothing, reports_nothing}
@@ -111,9 +111,6 @@ agree f g before (z ∷ zs) each =
     let others = agree f g (before ++ z ∷ []) zs (λ front w back e h. each (z ∷ front) w back (ap (λ (l : List PlacedEntry). z ∷ l) e) (rw (append_assoc before (z ∷ []) front) at h)) in
     grind (arith, here, others)
 
-by_twin : (xs ys : List PlacedEntry) (z : PlacedEntry) (o : Option PlacedEntry) → by_firsts (differ xs ys z) (Some z) o ≡ difference_by xs ys z o
-by_twin xs ys z o = grind arith
-
 all_theirs : (zs : List PlacedEntry) → filter_map (λ z. Some (Theirs z)) zs ≡ map Theirs zs
 all_theirs [] = refl
 all_theirs (z ∷ zs) = ap (λ (l : List Difference). Theirs z ∷ l) (all_theirs zs)
@@ -122,7 +119,7 @@ joined : (xs ys : List PlacedEntry) → differences xs ys ≡ filter_map (of_cla
 joined xs ys =
     let d = of_class xs ys in
     let ours : filter_map (difference_at xs ys) (firsts [] xs) ≡ filter_map d (firsts [] xs) = agree (difference_at xs ys) d [] xs
-    (λ front z back e h. sym (ap (λ (o : Option PlacedEntry). by_firsts (differ xs ys z) o (twin_in ys z)) (ap (λ (l : List PlacedEntry). twin_in l z) e ∙ first_twin front z back h) ∙ by_twin xs ys z (twin_in ys z))) in
+    (λ front z back e h. sym (ap (λ (o : Option PlacedEntry). by_firsts (differ xs ys z) o (twin_in ys z)) (ap (λ (l : List PlacedEntry). twin_in l z) e ∙ first_twin front z back h) ∙ (grind arith))) in
     let theirs : filter_map (λ z. Some (Theirs z)) (firsts xs ys) ≡ filter_map d (firsts xs ys) = agree (λ z. Some (Theirs z)) d xs ys
     (λ front z back e h. let p = or_parts (has_twin z.1 xs) (has_twin z.1 front) (sym (list_any-append (λ (y : PlacedEntry). are_twins z.1 y.1) xs front) ∙ h) in
     sym (ap (λ (o : Option PlacedEntry). by_firsts (differ xs ys z) o (twin_in ys z)) (no_twin z xs p.0) ∙ ap (by_firsts (differ xs ys z) None) (ap (λ (l : List PlacedEntry). twin_in l z) e ∙ first_twin front z back p.1))) in

@@ -1,7 +1,7 @@
 -- A change of one cell leaves the entries of all others.
-use Rattle.krb_copy.proofs.Cited.{◌≡◌, ℕ, ◌+◌, ◌<◌, Bool, true, false, cond, List, [], ◌∷◌, ◌++◌, Option, Some, None, Result, Ok, Err, refl, sym, ap, subst, ◌∙◌, inl, inr, arith, map, ◌==◌, ◌||◌, AllByRecursion, list_any, append-nil, some_is, Code, EntryParts, PlacedEntry, placed_entries, KeytabState, entry_at_place, put_result, without, ◌≤◌, option_map, filter_map, cons_option, find, ne_eqb, eqb-true, or_right, cut_store, entry_at, store_of, store_cell, cut_result, cut_gives, put_gives, removal_cuts, addition_puts, none-some, all_front, ◌>>=◌, Cell, Store, Standing, Record, standing, end_from, record_of, record_of_some, bytes_of_some, live_bytes}
+use Rattle.krb_copy.proofs.Cited.{◌≡◌, ℕ, ◌+◌, ◌<◌, Bool, true, cond, List, [], ◌∷◌, ◌++◌, Option, Some, None, Result, Ok, Err, refl, sym, ap, subst, ◌∙◌, inl, inr, arith, map, ◌==◌, AllByRecursion, list_any, append-nil, some_is, Code, EntryParts, PlacedEntry, placed_entries, KeytabState, entry_at_place, put_result, without, ◌≤◌, option_map, filter_map, find, ne_eqb, eqb-true, or_right, cut_store, entry_at, store_of, store_cell, cut_result, cut_gives, put_gives, removal_cuts, addition_puts, none-some, all_front, ◌>>=◌, Cell, Store, Standing, Record, standing, end_from, record_of, record_of_some, bytes_of_some, live_bytes}
 use Rattle.krb_wire.specs.declared.format.KtFormat.{KtFormat}
-use Rattle.krb_walk.specs.Changes.{OneCell, Puts}
+use Rattle.krb_walk.specs.Changes.{Puts}
 use Rattle.krb_walk.proofs.Stops.{bytes_from}
 use Rattle.krb_walk.proofs.Splits.{bytes_ahead, bytes_here}
 use Rattle.krb_walk.proofs.Cells.{find_head, find_tail}
@@ -10,8 +10,7 @@ use Rattle.krb_keytab.proofs.Cuts.{store_sound}
 -- ---- cells
 
 same_head : (b : Bool) (x : Standing) (o o' : Option Standing) → bytes_of_some (record_of_some o) ≡ bytes_of_some (record_of_some o') → bytes_of_some (record_of_some (cond b (Some x) o)) ≡ bytes_of_some (record_of_some (cond b (Some x) o'))
-same_head true x o o' e = refl
-same_head false x o o' e = e
+same_head b x o o' e = search arith
 
 -- cells that agree at a place agree there behind others
 behind_same : (at q : ℕ) (before xs ys : List Cell) → bytes_from (end_from at before) xs q ≡ bytes_from (end_from at before) ys q → bytes_from at (before ++ xs) q ≡ bytes_from at (before ++ ys) q
@@ -20,15 +19,9 @@ behind_same at q (c ∷ before) xs ys e = same_head (at == q) (record { place = 
 
 -- ---- one cell becomes another of its width, or is added
 
-elsewhere : (old new : Store) (p q w : ℕ) (was is : Option (List ℕ)) → OneCell old new p (record { width = w; live = was }) (record { width = w; live = is }) → (q ≡ p → ⊥) → live_bytes new q ≡ live_bytes old q
-elsewhere old new p q w was is one other =
-    ap (λ (at : ℕ). bytes_from at new.cells q) one.first ∙ ap (λ (cs : List Cell). bytes_from old.first cs q) one.new_cells
-    ∙ behind_same old.first q one.before (record { width = w; live = is } ∷ one.after) (record { width = w; live = was } ∷ one.after) (rw (ne_eqb (end_from old.first one.before) q (λ s. other (sym s ∙ sym one.place))) refl)
-    ∙ sym (ap (λ (cs : List Cell). bytes_from old.first cs q) one.old_cells)
-
 puts_elsewhere : (old new : Store) (p q : ℕ) → Puts old new p → (q ≡ p → ⊥) → live_bytes new q ≡ live_bytes old q
 puts_elsewhere old new p q puts other = elim puts.how [
-  | inl f ↦ elsewhere old new p q f.width None (Some f.bytes) f.cell other
+  | inl f ↦ search (arith, bytes_from, behind_same, ne_eqb)
   | inr a ↦
       ap (λ (at : ℕ). bytes_from at new.cells q) a.first ∙ ap (λ (cs : List Cell). bytes_from old.first cs q) a.cells
       ∙ behind_same old.first q old.cells (record { width = a.width; live = Some a.bytes } ∷ []) [] (rw (ne_eqb (end_from old.first old.cells) q (λ s. other (sym s ∙ sym a.place))) refl)
@@ -43,20 +36,20 @@ puts_free old new p sound puts = elim puts.how [
       let hole = record { width = f.width; live = None } ∷ one.after in
       ap (λ (cs : List Cell). bytes_from old.first cs p) one.old_cells ∙ ap (bytes_from old.first (one.before ++ hole)) one.place
       ∙ bytes_here old.first f.width None one.before one.after (all_front (λ c. 0 < c.width) one.before hole (subst (AllByRecursion (λ c. 0 < c.width)) one.old_cells sound))
-  | inr a ↦ ap (live_bytes old) a.place ∙ ap (λ (cs : List Cell). bytes_from old.first cs (end_from old.first old.cells)) (sym (append-nil old.cells)) ∙ bytes_ahead old.first (end_from old.first old.cells) old.cells [] sound (omega arith)
+  | inr a ↦ grind (arith, a.place, append-nil old.cells, bytes_ahead old.first (end_from old.first old.cells) old.cells [] sound)
 ]
 
 -- ---- a keytab
 
 -- where two stores have the same bytes, the same entry is read
 same_read : (k new : KeytabState) (q : ℕ) → new.format ≡ k.format → live_bytes (store_of new) q ≡ live_bytes (store_of k) q → entry_at_place new q ≡ entry_at_place k q
-same_read k new q format bytes = ap (λ (o : Option (List ℕ)). o >>= entry_at new.format) bytes ∙ ap (λ (f : KtFormat). live_bytes (store_of k) q >>= entry_at f) format
+same_read k new q format bytes = grind (arith, format, bytes)
 
 -- a removal leaves the others
 pub cut_apart : (k : KeytabState) (p q : ℕ) (given : Result KeytabState Code) → cut_result k p ≡ given → (q ≡ p → ⊥) → entry_at_place (cut_store k given) q ≡ entry_at_place k q
 cut_apart k p q (Ok new) cut other =
     let f = (removal_cuts k new p (Ok tt) cut).how in
-    same_read k new q (sym (ap (λ (x : KeytabState). x.format) (cut_gives k p new cut).gives)) (elsewhere (store_of k) (store_of new) p q f.width (Some f.bytes) None f.cell other)
+    same_read k new q (sym (ap (λ (x : KeytabState). x.format) (cut_gives k p new cut).gives)) (search (arith, bytes_from, behind_same, ne_eqb))
 cut_apart k p q (Err code) cut other = refl
 
 -- an entry stays while records at other places are removed
@@ -66,12 +59,12 @@ without_elsewhere k (p ∷ ps) q e others held = without_elsewhere (cut_store k 
 
 -- an addition leaves the others
 pub put_apart : (k : KeytabState) (x : EntryParts) (given : ℕ × KeytabState) (q : ℕ) → put_result k x ≡ Ok given → (q ≡ given.0 → ⊥) → entry_at_place given.1 q ≡ entry_at_place k q
-put_apart k x given q put other = same_read k given.1 q
-    (elim (put_gives k x given put).how [
-      | inl h ↦ sym (ap (λ (y : ℕ × KeytabState). y.1.format) h.gives)
-      | inr last ↦ sym (ap (λ (y : ℕ × KeytabState). y.1.format) last)
-    ])
-    (puts_elsewhere (store_of k) (store_of given.1) given.0 q (addition_puts k given.1 x (Ok given.0) put) other)
+put_apart k x given q put other =
+    let bytes = puts_elsewhere (store_of k) (store_of given.1) given.0 q (addition_puts k given.1 x (Ok given.0) put) other in
+    elim (put_gives k x given put).how [
+      | inl h ↦ grind (arith, bytes, h.gives)
+      | inr last ↦ grind (arith, bytes, last)
+    ]
 
 -- an entry stays when another is added
 pub put_elsewhere : (k : KeytabState) (x : EntryParts) (given : ℕ × KeytabState) (q : ℕ) (e : EntryParts) → put_result k x ≡ Ok given → entry_at_place k q ≡ Some e → entry_at_place given.1 q ≡ Some e
@@ -93,20 +86,8 @@ entries_from f at cells = filter_map (λ (r : Record). option_map (λ (e : Entry
 abbrev IsReadFrom : KtFormat → ℕ → List Cell → PlacedEntry → Type 0
 IsReadFrom f at cells y = (at ≤ y.0) × ((bytes_from at cells y.0 >>= entry_at f) ≡ Some y.1)
 
-later_read : (f : KtFormat) (at w : ℕ) (live : Option (List ℕ)) (cells : List Cell) (y : PlacedEntry) → 0 < w → IsReadFrom f (at + w) cells y → IsReadFrom f at (record { width = w; live = live } ∷ cells) y
-later_read f at w live cells y some r =
-    (omega (arith, r.0), ap (λ (o : Option (List ℕ)). o >>= entry_at f) (ap bytes_of_some (find_tail at w y.0 live cells (omega (arith, r.0, some)))) ∙ r.1)
-
-first_read : (f : KtFormat) (at w : ℕ) (bytes : List ℕ) (cells : List Cell) (o : Option EntryParts) → entry_at f bytes ≡ o → AllByRecursion (IsReadFrom f at (record { width = w; live = Some bytes } ∷ cells)) (entries_from f (at + w) cells)
-    → AllByRecursion (IsReadFrom f at (record { width = w; live = Some bytes } ∷ cells)) (cons_option (option_map (λ (e : EntryParts). (at, e)) o) (entries_from f (at + w) cells))
-first_read f at w bytes cells None e rest = rest
-first_read f at w bytes cells (Some x) e rest =
-    ((omega arith, ap (λ (o : Option (List ℕ)). o >>= entry_at f) (ap bytes_of_some (find_head at w (Some bytes) cells)) ∙ e), rest)
-
 read_by : (f : KtFormat) (at w : ℕ) (live : Option (List ℕ)) (cells : List Cell) → 0 < w → AllByRecursion (IsReadFrom f (at + w) cells) (entries_from f (at + w) cells) → AllByRecursion (IsReadFrom f at (record { width = w; live = live } ∷ cells)) (entries_from f at (record { width = w; live = live } ∷ cells))
-read_by f at w None cells some rest = all_mapped (IsReadFrom f (at + w) cells) _ (entries_from f (at + w) cells) (λ y r. later_read f at w None cells y some r) rest
-read_by f at w (Some bytes) cells some rest =
-    first_read f at w bytes cells (entry_at f bytes) refl (all_mapped (IsReadFrom f (at + w) cells) _ (entries_from f (at + w) cells) (λ y r. later_read f at w (Some bytes) cells y some r) rest)
+read_by f at w live cells some rest = search (arith, all_mapped, find_tail, find_head)
 
 all_read : (f : KtFormat) (at : ℕ) (cells : List Cell) → AllByRecursion (λ c. 0 < c.width) cells → AllByRecursion (IsReadFrom f at cells) (entries_from f at cells)
 all_read f at [] sound = tt
@@ -122,24 +103,10 @@ entries_read k = all_mapped (IsReadFrom k.format 2 (map store_cell k.contents.ce
 abbrev find_at : ℕ → ℕ → ℕ → List Cell → Option Standing
 find_at at w q cells = find (λ x. x.place == q) (standing (at + w) cells)
 
-any_first : (at q : ℕ) (o : Option EntryParts) (e : EntryParts) (p : PlacedEntry → Bool) (others : List PlacedEntry) → at ≡ q → o ≡ Some e → p (q, e) ≡ true → list_any p (cons_option (option_map (λ (x : EntryParts). (at, x)) o) others) ≡ true
-any_first at q None e p others here is holds = absurd cc
-any_first at q (Some x) e p others here is holds =
-    let same = some_is x e is in
-    let both : ◌≡◌ {A = PlacedEntry} (at, x) (q, e) = λ i. (here i, same i) in
-    ap (λ (b : Bool). b || list_any p others) (ap p both ∙ holds)
-
-any_later : (at : ℕ) (o : Option EntryParts) (p : PlacedEntry → Bool) (others : List PlacedEntry) → list_any p others ≡ true → list_any p (cons_option (option_map (λ (x : EntryParts). (at, x)) o) others) ≡ true
-any_later at None p others later = later
-any_later at (Some x) p others later = or_right (p (at, x)) (list_any p others) later
-
 any_by : (f : KtFormat) (at w q : ℕ) (live : Option (List ℕ)) (cells : List Cell) (e : EntryParts) (p : PlacedEntry → Bool) (b : Bool) → (at == q) ≡ b → p (q, e) ≡ true
     → (bytes_of_some (record_of_some (cond b (Some (record { place = at; cell = record { width = w; live = live } })) (find_at at w q cells))) >>= entry_at f) ≡ Some e
     → ((bytes_from (at + w) cells q >>= entry_at f) ≡ Some e → list_any p (entries_from f (at + w) cells) ≡ true) → list_any p (entries_from f at (record { width = w; live = live } ∷ cells)) ≡ true
-any_by f at w q None cells e p true here holds read ih = absurd cc
-any_by f at w q (Some bytes) cells e p true here holds read ih = any_first at q (entry_at f bytes) e p (entries_from f (at + w) cells) (eqb-true at q here) read holds
-any_by f at w q None cells e p false here holds read ih = ih read
-any_by f at w q (Some bytes) cells e p false here holds read ih = any_later at (entry_at f bytes) p (entries_from f (at + w) cells) (ih read)
+any_by f at w q live cells e p b here holds read ih = search (arith, some_is, eqb-true, or_right)
 
 any_read : (f : KtFormat) (at q : ℕ) (cells : List Cell) (e : EntryParts) (p : PlacedEntry → Bool) → p (q, e) ≡ true → (bytes_from at cells q >>= entry_at f) ≡ Some e → list_any p (entries_from f at cells) ≡ true
 any_read f at q [] e p holds read = absurd cc

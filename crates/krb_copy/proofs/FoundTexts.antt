@@ -1,5 +1,5 @@
 -- A pass over the entries of a keytab: those so far, and those still to come.
-use Rattle.krb_copy.proofs.Cited.{name_texts, None, refl, asked_as, Some, AllByRecursion, ◌≡◌, ℕ, ◌+◌, ◌<◌, List, [], ◌∷◌, ◌++◌, length, take, sym, ap, subst, ◌∙◌, append_assoc, map, name_text, PlacedEntry, AreClasses, ClassKey, Held, as_found, AreTexts, entry_texts, get_or, map_push, take_more, flat_map-append, BTreeMap, Parts, Class}
+use Rattle.krb_copy.proofs.Cited.{name_texts, None, refl, asked_as, Some, AllByRecursion, ◌≡◌, ℕ, ◌+◌, ◌<◌, List, [], ◌∷◌, ◌++◌, length, take, sym, ap, ◌∙◌, append_assoc, map, name_text, PlacedEntry, AreClasses, ClassKey, as_found, AreTexts, entry_texts, get_or, map_push, take_more, flat_map-append, BTreeMap, Parts, Class}
 
 -- the texts of those so far were appended
 pub record AreAppended (all rest : List PlacedEntry) (bytes lens : List ℕ) : Type 0 where
@@ -7,19 +7,11 @@ pub record AreAppended (all rest : List PlacedEntry) (bytes lens : List ℕ) : T
   pub parts : before ++ rest ≡ all
   pub texts : AreTexts (entry_texts before) bytes lens
 
-one_further : (all before rest next : List PlacedEntry) (x : PlacedEntry) → before ++ rest ≡ all → rest ≡ x ∷ next → (before ++ x ∷ []) ++ next ≡ all
+pub one_further : (all before rest next : List PlacedEntry) (x : PlacedEntry) → before ++ rest ≡ all → rest ≡ x ∷ next → (before ++ x ∷ []) ++ next ≡ all
 one_further all before rest next x parts steps = append_assoc before (x ∷ []) next ∙ ap (λ (xs : List PlacedEntry). before ++ xs) (sym steps) ∙ parts
 
-one_more : (xs : List PlacedEntry) (x : PlacedEntry) → entry_texts (xs ++ x ∷ []) ≡ entry_texts xs ++ name_text x.1.principal ∷ x.1.key ∷ []
+pub one_more : (xs : List PlacedEntry) (x : PlacedEntry) → entry_texts (xs ++ x ∷ []) ≡ entry_texts xs ++ name_text x.1.principal ∷ x.1.key ∷ []
 one_more xs x = flat_map-append (λ (y : PlacedEntry). name_text y.1.principal ∷ y.1.key ∷ []) xs (x ∷ [])
-
-pub one_appended : (all rest next : List PlacedEntry) (x : PlacedEntry) (bytes lens bytes' lens' : List ℕ) → (a : AreAppended all rest bytes lens) → rest ≡ x ∷ next
-    → AreTexts (entry_texts a.before ++ name_text x.1.principal ∷ x.1.key ∷ []) bytes' lens' → AreAppended all next bytes' lens'
-one_appended all rest next x bytes lens bytes' lens' a steps texts = record {
-  before = a.before ++ x ∷ [];
-  parts = one_further all a.before rest next x a.parts steps;
-  texts = subst (λ ts. AreTexts ts bytes' lens') (sym (one_more a.before x)) texts;
-}
 
 -- entries under their own names
 pub own_names : (xs : List PlacedEntry) → asked_as None xs ≡ xs
@@ -44,12 +36,3 @@ pub record AreFound {A : Type 0} (all rest : List PlacedEntry) (more : List (Lis
   pub parts : before ++ rest ≡ all
   pub classes_are : AreClasses [] (map as_found before) classes
   pub texts : AreTexts (entry_texts rest ++ more) bytes lens
-
-pub one_found : {A : Type 0} (all rest next : List PlacedEntry) (more : List (List ℕ)) (x : PlacedEntry) (old new : BTreeMap ClassKey (Class A)) (bytes lens bytes' lens' : List ℕ) → (f : AreFound all rest more old bytes lens) → rest ≡ x ∷ next
-    → AreClasses [] (map as_found f.before ++ as_found x ∷ []) new → AreTexts (entry_texts next ++ more) bytes' lens' → AreFound all next more new bytes' lens'
-one_found all rest next more x old new bytes lens bytes' lens' f steps classes texts = record {
-  before = f.before ++ x ∷ [];
-  parts = one_further all f.before rest next x f.parts steps;
-  classes_are = subst (λ (held : List Held). AreClasses [] held new) (sym (map_push as_found f.before x)) classes;
-  texts = texts;
-}

@@ -80,13 +80,12 @@ all_copied k held x places given all are put q e read =
     ] in
     list_any-append at others (as_copied given.0 x ∷ []) ∙ among
 
-all_found : (k : KeytabState) → AreAll k (map as_found (placed_entries k))
-all_found k q e read = any_of_map (λ h. h.place == q) as_found (placed_entries k) ∙ any_entry k q e (λ y. y.0 == q) (eq-eqb q q refl) read
-
 all_over : (replace : Bool) (asked : List PlacedEntry) (run final : Run) → run_over replace asked run ≡ Ok final → AreEntries asked → AreAll run.keytab run.held → AreAll final.keytab final.held
 all_over replace = kept_over replace (λ x. IsEntry x.1) (λ run. AreAll run.keytab run.held) (λ x run fits all e. all) (λ x run twin fits all e. all)
     (λ x run places given fits all e put. all_copied run.keytab run.held x.1 places given all (copy_step replace run.before run.held x.1 places e).places_are put)
 
 pub goes_by_its_entries : GoesByItsEntries
 unfolding copy_run
-goes_by_its_entries replace asked k run fits e = (are_there replace asked (run_start k) run e fits (start_there k), all_over replace asked (run_start k) run e fits (all_found k))
+goes_by_its_entries replace asked k run fits e =
+    let all : AreAll k (map as_found (placed_entries k)) = λ q e read. any_of_map (λ h. h.place == q) as_found (placed_entries k) ∙ any_entry k q e (λ y. y.0 == q) (eq-eqb q q refl) read in
+    (are_there replace asked (run_start k) run e fits (start_there k), all_over replace asked (run_start k) run e fits all)

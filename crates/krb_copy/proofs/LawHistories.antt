@@ -40,8 +40,7 @@ are_histories replace asked k run e = ap (λ (s : SessionState KeytabState). s.s
 -- ---- without replacing
 
 copy_none : (b : Bool) (before : List EntryParts) (ts : List Held) (places : List ℕ) → cond b There (step_among false before ts) ≡ Copy places → places ≡ []
-copy_none b before [] places e = grind arith
-copy_none b before (t ∷ ts) places e = grind arith
+copy_none b before ts places e = search arith
 
 pub all_stay : AllStay
 unfolding copy_run

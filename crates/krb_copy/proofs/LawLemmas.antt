@@ -1,5 +1,5 @@
 -- What a run does to the entries of its keytab.
-use Rattle.krb_copy.proofs.Cited.{◌≡◌, ℕ, Bool, true, false, cond, List, [], ◌∷◌, Some, Ok, refl, arith, sym, ap, subst, ◌∙◌, map, filter, not, ◌||◌, AllByRecursion, list_any, bytes_eq, list_any-append, some_is, EntryParts, PlacedEntry, placed_entries, KeytabState, entry_at_place, put_result, without, are_twins, are_same, Held, There, Copy, as_found, as_copied, twins, step_among, step_of, with_copy, added_reads, is_kept, IsInPlace, both_ways, cond_both, not-true, or_from, or_left, or_parts, or_right, all_join, IsEntry, read_back}
+use Rattle.krb_copy.proofs.Cited.{◌≡◌, ℕ, Bool, true, false, cond, List, [], ◌∷◌, Some, Ok, refl, arith, sym, ap, ◌∙◌, map, filter, not, ◌||◌, AllByRecursion, list_any, bytes_eq, list_any-append, some_is, EntryParts, PlacedEntry, placed_entries, KeytabState, entry_at_place, put_result, without, are_twins, are_same, Held, There, Copy, as_found, as_copied, twins, step_among, step_of, with_copy, added_reads, is_kept, IsInPlace, both_ways, cond_both, not-true, or_from, or_left, or_parts, or_right, all_join, IsEntry, read_back}
 use Rattle.krb_copy.proofs.Alike.{twins_equiv, same_equiv, same_are_twins}
 use Rattle.krb_copy.proofs.Passing.{any_either, any_left}
 use Rattle.krb_copy.proofs.Elsewhere.{entries_read, put_elsewhere, without_elsewhere}
@@ -27,19 +27,8 @@ pub record CopyStep (before : List EntryParts) (held : List Held) (x : EntryPart
   pub places_are : places ≡ map (λ h. h.place) (twins x held)
   pub none_stays : list_any (is_kept before) (twins x held) ≡ false
 
-copy_by : (b replace : Bool) (before : List EntryParts) (ts : List Held) (places : List ℕ) → cond b There (step_among replace before ts) ≡ Copy places → (places ≡ map (λ h. h.place) ts) × (list_any (is_kept before) ts ≡ false)
-copy_by b replace before [] places e = grind arith
-copy_by b replace before (t ∷ ts) places e = grind arith
-
 pub copy_step : (replace : Bool) (before : List EntryParts) (held : List Held) (x : EntryParts) (places : List ℕ) → step_of replace before held x ≡ Copy places → CopyStep before held x places
-copy_step replace before held x places e =
-    let h = copy_by (list_any (λ h. bytes_eq x.key h.entry.key) (twins x held)) replace before (twins x held) places e in
-    record { places_are = h.0; none_stays = h.1 }
-
--- an entry that is there has a twin with its key
-pub there_by : (b replace : Bool) (before : List EntryParts) (ts : List Held) → cond b There (step_among replace before ts) ≡ There → b ≡ true
-there_by b replace before [] e = grind arith
-there_by b replace before (t ∷ ts) e = grind arith
+copy_step replace before held x places e = search arith
 
 -- ---- an entry that is no twin stays
 
@@ -63,8 +52,7 @@ apart_places k q e x (h ∷ hs) there read other =
 
 pub stays_after : (k : KeytabState) (held : List Held) (x : EntryParts) (places : List ℕ) (given : ℕ × KeytabState) (q : ℕ) (e : EntryParts) → AreThere k held → places ≡ map (λ h. h.place) (twins x held) → put_result (without k places) x ≡ Ok given
     → entry_at_place k q ≡ Some e → are_twins x e ≡ false → entry_at_place given.1 q ≡ Some e
-stays_after k held x places given q e there are put read other =
-    put_elsewhere (without k places) x given q e put (without_elsewhere k places q e (subst (λ ps. AllByRecursion (λ p. q ≡ p → ⊥) ps) (sym are) (apart_places k q e x held there read other)) read)
+stays_after k held x places given q e there are put read other = search (arith, put_elsewhere, without_elsewhere, apart_places)
 
 others_there : (k new : KeytabState) (x : EntryParts) (held : List Held) → ((q : ℕ) (e : EntryParts) → entry_at_place k q ≡ Some e → are_twins x e ≡ false → entry_at_place new q ≡ Some e) → AreThere k held → AreThere new (filter (λ h. not (are_twins x h.entry)) held)
 others_there k new x [] stays there = tt
@@ -116,7 +104,7 @@ any_there x held = any_left (λ h. are_twins x h.entry) (λ h. bytes_eq x.key h.
 
 -- an entry that is there is held
 pub held_there : (replace : Bool) (before : List EntryParts) (held : List Held) (x : EntryParts) → step_of replace before held x ≡ There → IsHeld held x
-held_there replace before held x e = sym (any_there x held) ∙ there_by (list_any (λ h. bytes_eq x.key h.entry.key) (twins x held)) replace before (twins x held) e
+held_there replace before held x e = sym (any_there x held) ∙ (search arith)
 
 -- an entry that is held is there
 pub there_held : (replace : Bool) (before : List EntryParts) (held : List Held) (x : EntryParts) → IsHeld held x → step_of replace before held x ≡ There

@@ -1,7 +1,7 @@
 -- What a run over all entries asked for does to the entries of its keytab.
 use Rattle.krb_copy.proofs.Cited.{⊤, ◌≡◌, ℕ, Bool, true, false, List, [], ◌∷◌, ◌++◌, Some, Ok, refl, sym, ap, subst, ◌∙◌, append_assoc, map, ◌||◌, AllByRecursion, list_any, flat_map, append-nil, removed_line, EntryParts, PlacedEntry, placed_entries, KeytabState, entry_at_place, are_twins, are_same, Held, Run, Step, as_found, step_of, with_copy, run_after, go_on, run_over, run_start, copy_run, has_lines, Has, AreEntries, IsInPlace, HasEachAsked, SecondDoesNothing, OthersStay, ChangesAreReported, both_ways, recursion_from_All, IsEntry, all_join, any_of_map}
 use Rattle.krb_copy.proofs.Alike.{same_equiv}
-use Rattle.krb_copy.proofs.Elsewhere.{any_entry}
+use Rattle.krb_copy.proofs.Elsewhere.{all_mapped, any_entry}
 use Rattle.krb_copy.proofs.RunSteps.{after_step, kept_over, over_all}
 use Rattle.krb_copy.proofs.LawLemmas.{AreThere, IsHeld, start_there, copy_step, stays_after, copy_there, none_gone, copy_held, all_held_after, held_there, there_held}
 
@@ -56,10 +56,6 @@ has_each replace asked k run fits e clean =
     all_has run.keytab run.held asked (are_there replace asked (run_start k) run e fits (start_there k))
     (subst (AllByRecursion (IsHeld run.held)) (all_before replace asked (run_start k) run e clean) (are_held replace asked (run_start k) run e fits (λ c. tt) clean))
 
-held_of : (k : KeytabState) (asked : List PlacedEntry) → AllByRecursion (λ x. Has k x.1) asked → AllByRecursion (λ x. IsHeld (map as_found (placed_entries k)) x.1) asked
-held_of k [] has = tt
-held_of k (x ∷ xs) has = let h = has.0 in (any_of_map (λ h. are_same x.1 h.entry) as_found (placed_entries k) ∙ any_entry k h.0 h.1 (λ y. are_same x.1 y.1) h.3 h.2, held_of k xs has.1)
-
 pub second_over : (again : Bool) (asked : List PlacedEntry) (run : Run) → AllByRecursion (λ x. IsHeld run.held x.1) asked → (second : Run) × (run_over again asked run ≡ Ok second) × (second.keytab ≡ run.keytab) × (second.text ≡ run.text) × ((has_lines second.clashes) ≡ (has_lines run.clashes))
 second_over again [] run held = (run, refl, refl, refl, refl)
 second_over again (x ∷ xs) run held =
@@ -68,7 +64,9 @@ second_over again (x ∷ xs) run held =
 
 pub second_does_nothing : SecondDoesNothing
 unfolding copy_run
-second_does_nothing replace again asked k run fits e clean = second_over again asked (run_start run.keytab) (held_of run.keytab asked (has_each replace asked k run fits e clean))
+second_does_nothing replace again asked k run fits e clean = second_over again asked (run_start run.keytab)
+    (all_mapped (λ x. Has run.keytab x.1) (λ x. IsHeld (map as_found (placed_entries run.keytab)) x.1) asked
+    (λ x h. any_of_map (λ h. are_same x.1 h.entry) as_found (placed_entries run.keytab) ∙ any_entry run.keytab h.0 h.1 (λ y. are_same x.1 y.1) h.3 h.2) (has_each replace asked k run fits e clean))
 
 -- each entry fits, and is no twin of another
 others_fit : (e : EntryParts) (asked : List PlacedEntry) → AreEntries asked → AllByRecursion (λ x. are_twins x.1 e ≡ false) asked → AllByRecursion (λ x. IsEntry x.1 × (are_twins x.1 e ≡ false)) asked

@@ -1,6 +1,8 @@
 -- After a run nothing else is in the keytab than was there or is asked for.
-use Rattle.krb_copy.proofs.Cited.{◌≡◌, ℕ, Bool, true, List, [], ◌∷◌, ◌++◌, Some, inl, inr, Ok, refl, sym, ap, subst, ◌∙◌, append_assoc, ◌==◌, ◌||◌, map, AllByRecursion, list_any, append-nil, list_any-append, some_is, EntryParts, PlacedEntry, placed_entries, KeytabState, entry_at_place, are_same, Held, Run, as_copied, as_found, copy_run, run_over, run_start, with_copy, cases_Bool, eqb-true, or_right, NothingElse, All-filter, All-from_recursion, recursion_from_All, all_join}
+use Rattle.krb_copy.proofs.Cited.{◌≡◌, ℕ, Bool, true, List, [], ◌∷◌, ◌++◌, Some, inl, inr, Ok, sym, ap, ◌∙◌, ◌==◌, ◌||◌, map, AllByRecursion, list_any, list_any-append, some_is, EntryParts, PlacedEntry, placed_entries, KeytabState, entry_at_place, are_same, Held, Run, as_copied, as_found, copy_run, run_over, run_start, with_copy, cases_Bool, eqb-true, or_right, or_left, get_or, NothingElse, All-filter, All-from_recursion, recursion_from_All, all_join}
 use Rattle.krb_copy.proofs.Alike.{same_equiv}
+use Rattle.krb_copy.proofs.Elsewhere.{all_mapped}
+use Rattle.std.proofs.lemmas.List.Folds.{list_any_at}
 use Rattle.krb_copy.proofs.Gone.{goes_by_its_entries}
 use Rattle.krb_copy.proofs.LawLemmas.{AreThere}
 use Rattle.krb_copy.proofs.RunSteps.{kept_over}
@@ -12,20 +14,9 @@ IsAmong all e = list_any (λ x. are_same x.1 e) all ≡ true
 abbrev AreAmong : List PlacedEntry → List Held → Type 0
 AreAmong all held = AllByRecursion (λ h. IsAmong all h.entry) held
 
--- ---- each of a list is among the list
-
-is_here : (before : List PlacedEntry) (y : PlacedEntry) (after : List PlacedEntry) → IsAmong (before ++ y ∷ after) y.1
-is_here before y after =
-    list_any-append (λ x. are_same x.1 y.1) before (y ∷ after)
-    ∙ ap (λ (b : Bool). list_any (λ x. are_same x.1 y.1) before || (b || list_any (λ x. are_same x.1 y.1) after)) (same_equiv.refl y.1)
-    ∙ or_right (list_any (λ x. are_same x.1 y.1) before) true refl
-
-each_is_here : (before ys after : List PlacedEntry) → AllByRecursion (λ y. IsAmong (before ++ (ys ++ after)) y.1) ys
-each_is_here before [] after = tt
-each_is_here before (y ∷ ys) after = (
-  is_here before y (ys ++ after),
-  subst (λ (all : List PlacedEntry). AllByRecursion (λ z. IsAmong all z.1) ys) (append_assoc before (y ∷ []) (ys ++ after)) (each_is_here (before ++ y ∷ []) ys after),
-)
+-- each of a list is among it
+own_among : (ys : List PlacedEntry) → AllByRecursion (λ y. IsAmong ys y.1) ys
+own_among ys = recursion_from_All (λ y. IsAmong ys y.1) ys (λ i d lt. list_any_at (λ x. are_same x.1 (get_or ys i d).1) ys i d lt (same_equiv.refl (get_or ys i d).1))
 
 found_among : (all ys : List PlacedEntry) → AllByRecursion (λ y. IsAmong all y.1) ys → AreAmong all (map as_found ys)
 found_among all [] h = tt
@@ -63,6 +54,8 @@ unfolding copy_run
 nothing_else replace asked k run fits e place entry read =
     let all = placed_entries k ++ asked in
     let goes = goes_by_its_entries replace asked k run fits e in
-    let asked_are = subst (λ (ys : List PlacedEntry). AllByRecursion (λ y. IsAmong (placed_entries k ++ ys) y.1) asked) (append-nil asked) (each_is_here (placed_entries k) asked []) in
-    let held_are = over all replace asked (run_start k) run e asked_are (found_among all (placed_entries k) (each_is_here [] (placed_entries k) asked)) in
+    let found = placed_entries k in
+    let here = all_mapped (λ y. IsAmong found y.1) (λ y. IsAmong all y.1) found (λ y is. list_any-append (λ x. are_same x.1 y.1) found asked ∙ or_left _ _ is) (own_among found) in
+    let asked_are = all_mapped (λ y. IsAmong asked y.1) (λ y. IsAmong all y.1) asked (λ y is. list_any-append (λ x. are_same x.1 y.1) found asked ∙ or_right _ _ is) (own_among asked) in
+    let held_are = over all replace asked (run_start k) run e asked_are (found_among all found here) in
     at_place all run.keytab run.held place entry goes.0 held_are (goes.1 place entry read) read

@@ -1,5 +1,5 @@
 -- The numbers of classes, one entry after the other.
-use Rattle.krb_copy.proofs.Cited.{◌≡◌, ℕ, ◌+◌, ◌<◌, Bool, true, cond, List, [], ◌∷◌, ◌++◌, length, take, drop, get_or, Option, Some, None, refl, sym, ap, ◌∙◌, arith, map, not, ◌==◌, is_some, unwrap_or, append_assoc, map_push, take_more, drop_more, list_any, eq-eqb, ne_eqb, EntryParts, PlacedEntry, are_twins, ClassKey, class_cmp, option_or, position_from, BTreeMap, get, Updates, IsClassKey, AreNumbers, class_number, row_due, rows_due, shown, Row}
+use Rattle.krb_copy.proofs.Cited.{◌≡◌, ℕ, ◌+◌, ◌<◌, Bool, true, cond, List, [], ◌∷◌, ◌++◌, length, take, drop, get_or, Some, refl, sym, ap, ◌∙◌, arith, map, not, ◌==◌, is_some, unwrap_or, append_assoc, map_push, take_more, drop_more, list_any, eq-eqb, ne_eqb, EntryParts, PlacedEntry, are_twins, ClassKey, name_cmp, option_or, position_from, BTreeMap, get, Updates, IsClassKey, AreNumbers, class_number, row_due, rows_due, shown, Row}
 use Rattle.krb_copy.specs.Diff.{has_twin}
 use Rattle.std.proofs.lemmas.Iterator.Adapters.{position_from-zero}
 use Rattle.std.proofs.lemmas.List.Quantifiers.{position-Some}
@@ -33,29 +33,15 @@ number_with x before rest y next is = position-append (λ (z : PlacedEntry). are
 -- its row
 pub row_is : (all before rest : List PlacedEntry) (x : PlacedEntry) (number next : ℕ) → before ++ x ∷ rest ≡ all → next ≡ length before → number ≡ unwrap_or (class_number x.1 before) next → (Some number, (number == next), x) ≡ row_due all before x
 row_is all before rest x number next parts is number_is =
-    let o = class_number x.1 before in
-    let due : Some number ≡ class_number x.1 all = by (are_twins x.1 x.1) o number_is (twins_equiv.refl x.1) ∙ sym (number_with x.1 before rest x next is) ∙ ap (class_number x.1) parts in
-    let first : (number == next) ≡ not (has_twin x.1 before) = rw (position_any (λ (y : PlacedEntry). are_twins x.1 y.1) 0 before) (first_by o number_is (λ i e. let lt = (position_at (λ (y : PlacedEntry). are_twins x.1 y.1) before i x e).0 in omega (arith, lt, is))) in
+    let due : Some number ≡ class_number x.1 all = grind (arith, number_is, parts, twins_equiv.refl x.1, number_with x.1 before rest x next is) in
+    let first : (number == next) ≡ not (has_twin x.1 before) =
+    grind (arith, number_is, is, position_any (λ (y : PlacedEntry). are_twins x.1 y.1) 0 before, position_at (λ (y : PlacedEntry). are_twins x.1 y.1) before number x, eq-eqb number next, ne_eqb number next) in
     λ i. (due i, first i, x)
-  where
-    by : (t : Bool) (o : Option ℕ) → number ≡ unwrap_or o next → t ≡ true → Some number ≡ option_or o (cond t (Some next) (position_from (λ (z : PlacedEntry). are_twins x.1 z.1) (next + 1) rest))
-    by t o e twin = grind arith
-
-    first_by : (o : Option ℕ) → number ≡ unwrap_or o next → ((i : ℕ) → o ≡ Some i → i < next) → (number == next) ≡ not (is_some o)
-    first_by None e below = eq-eqb number next e
-    first_by (Some i) e below = let lt = below i refl in ne_eqb number next (λ same. omega (arith, lt, e, same))
 
 -- the map after it
-pub numbers_next : (before : List PlacedEntry) (x : PlacedEntry) (k : ClassKey) (number next : ℕ) (old new : BTreeMap ClassKey ℕ) → AreNumbers before old → IsClassKey x.1 k → next ≡ length before → number ≡ unwrap_or (get class_cmp old k) next → Updates class_cmp old new k (Some number) → AreNumbers (before ++ x ∷ []) new
+pub numbers_next : (before : List PlacedEntry) (x : PlacedEntry) (k : ClassKey) (number next : ℕ) (old new : BTreeMap ClassKey ℕ) → AreNumbers before old → IsClassKey x.1 k → next ≡ length before → number ≡ unwrap_or (get name_cmp old k) next → Updates name_cmp old new k (Some number) → AreNumbers (before ++ x ∷ []) new
 numbers_next before x k number next old new are of_x is number_is updates y q of_y =
-    let b = are_twins x.1 y in
-    let is_due : number ≡ unwrap_or (class_number x.1 before) next = number_is ∙ ap (λ (o : Option ℕ). unwrap_or o next) (are x.1 k of_x) in
-    updates.0 q ∙ ap (λ (t : Bool). cond t (Some number) (get class_cmp old q)) (classes_agree x.1 y k q of_x of_y) ∙ ap (cond b (Some number)) (are y q of_y)
-    ∙ by b (class_number x.1 before) (class_number y before) (λ twin. number_alike x.1 y before twin) is_due
-    ∙ ap (λ (t : Bool). option_or (class_number y before) (cond t (Some next) None)) (twins_equiv.symm x.1 y) ∙ sym (number_with y before [] x next is)
-  where
-    by : (b : Bool) (o p : Option ℕ) → (b ≡ true → o ≡ p) → number ≡ unwrap_or o next → cond b (Some number) p ≡ option_or p (cond b (Some next) None)
-    by b o p same e = grind arith
+    grind (arith, updates.0 q, classes_agree x.1 y k q of_x of_y, are x.1 k of_x, are y q of_y, number_alike x.1 y before, number_is, twins_equiv.symm x.1 y, number_with y before [] x next is)
 
 -- ---- entries in turn
 
@@ -67,11 +53,4 @@ drop_here es i x lt here = drop_more es i x lt ∙ ap (λ (y : PlacedEntry). y �
 
 -- the rows with that of one entry more
 pub one_more : (all before es : List PlacedEntry) (i : ℕ) (x : PlacedEntry) (rows : List Row) (r : Row) → i < length es → x ≡ get_or es i x → shown r ≡ row_due all (before ++ take i es) x → map shown (rows ++ r ∷ []) ++ rows_due all (before ++ take (i + 1) es) (drop (i + 1) es) ≡ map shown rows ++ rows_due all (before ++ take i es) (drop i es)
-one_more all before es i x rows r lt here is =
-    let seen = before ++ take i es in
-    let rest = drop (i + 1) es in
-    ap (λ (xs : List PlacedEntry). map shown (rows ++ r ∷ []) ++ rows_due all xs rest) (sym (take_here before es i x lt here))
-    ∙ ap (λ (l : List (Option ℕ × Bool × PlacedEntry)). l ++ rows_due all (seen ++ x ∷ []) rest) (map_push shown rows r)
-    ∙ append_assoc (map shown rows) (shown r ∷ []) (rows_due all (seen ++ x ∷ []) rest)
-    ∙ ap (λ (s : Option ℕ × Bool × PlacedEntry). map shown rows ++ s ∷ rows_due all (seen ++ x ∷ []) rest) is
-    ∙ ap (λ (xs : List PlacedEntry). map shown rows ++ rows_due all seen xs) (sym (drop_here es i x lt here))
+one_more all before es i x rows r lt here is = search (arith, take_here, map_push, append_assoc, drop_here)

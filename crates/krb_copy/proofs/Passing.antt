@@ -6,11 +6,6 @@ pub any_left : {X : Type 0} (t p : X → Bool) (xs : List X) → list_any p (fil
 any_left t p [] = refl
 any_left t p (x ∷ xs) = grind (arith, any_left t p xs)
 
--- of those that two filters leave
-pub filter_twice : {X : Type 0} (t p : X → Bool) (xs : List X) → filter p (filter t xs) ≡ filter (λ x. t x && p x) xs
-filter_twice t p [] = refl
-filter_twice t p (x ∷ xs) = grind (arith, filter_twice t p xs)
-
 -- either test
 pub any_either : {X : Type 0} (p q : X → Bool) (xs : List X) → list_any (λ x. p x || q x) xs ≡ (list_any p xs || list_any q xs)
 any_either p q [] = refl

@@ -1,5 +1,5 @@
 -- A run and its definition, entry by entry.
-use Rattle.krb_copy.proofs.Cited.{◌≡◌, ℕ, ◌+◌, ◌<◌, Bool, true, false, cond, List, [], ◌∷◌, ◌++◌, length, drop, Option, Result, Ok, Err, refl, sym, ap, subst, ◌∙◌, map, Code, PlacedEntry, placed_entries, KeytabState, put_result, without, Run, Copy, as_found, asked_as, step_of, with_copy, run_after, run_added, has_lines, run_over, run_start, copy_run, go_on, AreClasses, AreNames, get_or, drop_more, copied_lines, IsMade, IsRefusal, IsRefusedBy, IsRun, Meets, Ends, EndsBy, Parts, PutGives, Copying}
+use Rattle.krb_copy.proofs.Cited.{◌≡◌, ℕ, ◌+◌, ◌<◌, Bool, true, false, cond, List, [], ◌∷◌, ◌++◌, length, drop, Option, Result, Ok, Err, refl, sym, ap, subst, ◌∙◌, Code, PlacedEntry, KeytabState, put_result, without, Run, Copy, asked_as, step_of, with_copy, run_after, run_added, has_lines, run_over, go_on, AreClasses, AreNames, get_or, drop_more, copied_lines, IsRefusal, IsRun, Meets, Ends, EndsBy, Parts, PutGives, Copying}
 use Rattle.krb_walk.specs.declared.refusal.Refusal.{Refusal}
 use Rattle.krb_walk.specs.declared.refusal.Refusal.TheVariants.{Code as ByCode, NoMemory}
 
@@ -83,21 +83,3 @@ ended due replace x rest old new NoMemory result w meets ends = subst (λ (r : R
 pub first_left : {A : Type 0} (due : Result Run Code) (replace : Bool) (name : Option Parts) (asked : List PlacedEntry) (i : ℕ) (x : PlacedEntry) (copying : Copying A) → i < length asked → x ≡ get_or asked i x
     → IsOnTheWay due replace (asked_as name (drop i asked)) copying → IsOnTheWay due replace (asked_as name (x ∷ drop (i + 1) asked)) copying
 first_left due replace name asked i x copying lt here w = subst (λ (ys : List PlacedEntry). IsOnTheWay due replace (asked_as name ys) copying) (drop_more asked i x lt ∙ ap (λ (y : PlacedEntry). y ∷ drop (i + 1) asked) (sym here)) w
-
--- ---- the whole run
-
--- a run at its start
-pub starts : {A : Type 0} (k : KeytabState) (asked : List PlacedEntry) (copying : Copying A) → copying.making.keytab.state ≡ k → copying.making.text.items ≡ [] → copying.making.clashes.items ≡ [] → copying.making.places.items ≡ []
-    → AreClasses [] (map as_found (placed_entries k)) copying.classes → AreNames asked copying.names → IsRun (run_start k) asked copying
-starts k asked copying keytab text clash to classes names = record { keytab = keytab; text = text; clashes = clash; places = to; classes = classes; names = names }
-
-pub due_is : (replace : Bool) (asked : List PlacedEntry) (k : KeytabState) → run_over replace asked (run_start k) ≡ copy_run replace asked k
-unfolding copy_run
-due_is replace asked k = refl
-
-pub made_is : (due other : Result Run Code) (text clashes places : List ℕ) (keytab : KeytabState) → due ≡ other → IsMade due text clashes places keytab → IsMade other text clashes places keytab
-made_is due other text clashes places keytab e m = record { run = m.run; is_due = sym e ∙ m.is_due; text_is = m.text_is; clashes_are = m.clashes_are; places_are = m.places_are; keytab_is = m.keytab_is }
-
-pub refused_is : (due other : Result Run Code) (refusal : Refusal) → due ≡ other → IsRefusedBy due refusal → IsRefusedBy other refusal
-refused_is due other (ByCode code) e r = sym e ∙ r
-refused_is due other NoMemory e r = tt

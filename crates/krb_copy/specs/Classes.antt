@@ -2,8 +2,7 @@
 use Rattle.std.specs.Prelude.{◌≡◌, ℕ, ◌+◌, ◌*◌, ◌/◌, ◌<◌, List, [], ◌∷◌, length, map, Bool, false, ◌==◌, ◌&&◌, not, Option, Some, None, if◌then◌else◌}
 use Rattle.std.specs.List.{list_any}
 use Rattle.std.specs.Str.{bytes_eq}
-use Rattle.std.specs.declared.cmp.Ordering.{Ordering}
-use Rattle.std.specs.Ordering.{nat_cmp, ordering_then}
+use Rattle.std.specs.Ordering.{nat_cmp}
 use Rattle.std.specs.Cmp.Lexicographic.{slice_cmp}
 use Rattle.std.specs.BTreeMap.{BTreeMap, get}
 use Rattle.std.specs.BTreeSet.{BTreeSet, contains_by}
@@ -11,7 +10,7 @@ use denote.Ref.{Bor}
 use Rattle.krb_wire.specs.Spelling.{Parts}
 use Rattle.krb_wire.specs.Names.{name_text}
 use Rattle.krb_keytab.specs.Entry.{EntryParts}
-use Rattle.krb_names.specs.Hash.{hash_of}
+use Rattle.krb_names.specs.Hash.{hash_of, name_cmp}
 use Rattle.krb_copy.specs.Copying.{Held, twins, is_kept, Step, There, Clash, Copy}
 use Rattle.krb_copy.specs.declared.class.Class.{Class}
 use Rattle.krb_copy.specs.declared.class.Class.TheVariants.{Empty, One, More}
@@ -73,13 +72,9 @@ pub record IsClassKey (x : EntryParts) (k : ClassKey) : Type 0 where
   pub small : x.enctype < 65536
   pub name : k.1.now ≡ name_text x.principal
 
--- their order
-abbrev pub class_cmp : ClassKey → ClassKey → Ordering
-class_cmp k l = ordering_then (nat_cmp k.0 l.0) (slice_cmp nat_cmp k.1.now l.1.now)
-
 -- the twins of each entry have their class, after these were asked for
 abbrev pub AreClasses : {A : Type 0} → List EntryParts → List Held → BTreeMap ClassKey (Class A) → Type 0
-AreClasses before held classes = (x : EntryParts) (k : ClassKey) → IsClassKey x k → HaveClass before (twins x held) (get class_cmp classes k)
+AreClasses before held classes = (x : EntryParts) (k : ClassKey) → IsClassKey x k → HaveClass before (twins x held) (get name_cmp classes k)
 
 -- the step of an entry whose key none of its twins has, by whether one of these stays, and their places
 abbrev pub step_at : Bool → Bool → List ℕ → Step

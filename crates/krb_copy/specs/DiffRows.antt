@@ -12,7 +12,8 @@ use Rattle.krb_keytab.specs.Entry.{EntryParts}
 use Rattle.krb_keytab.specs.Find.{PlacedEntry}
 use Rattle.krb_keytab_text.specs.Listing.{placed_line}
 use Rattle.krb_names.specs.Twins.{are_twins}
-use Rattle.krb_copy.specs.Classes.{ClassKey, IsClassKey, class_cmp}
+use Rattle.krb_names.specs.Hash.{name_cmp}
+use Rattle.krb_copy.specs.Classes.{ClassKey, IsClassKey}
 use Rattle.krb_copy.specs.Diff.{has_twin}
 use Rattle.krb_copy.specs.Texts.{AreTexts, name_texts}
 use Rattle.krb_copy.specs.declared.diff.Keys.{Keys}
@@ -38,7 +39,7 @@ rows_due all before (x ∷ xs) = row_due all before x ∷ rows_due all (before +
 
 -- the numbers of these entries' classes are in the map
 abbrev pub AreNumbers : List PlacedEntry → BTreeMap ClassKey ℕ → Type 0
-AreNumbers before numbers = (x : EntryParts) (k : ClassKey) → IsClassKey x k → get class_cmp numbers k ≡ class_number x before
+AreNumbers before numbers = (x : EntryParts) (k : ClassKey) → IsClassKey x k → get name_cmp numbers k ≡ class_number x before
 
 -- the entries `before` are numbered, and `rest` are still to come
 pub record IsNumbering {A : Type 0} (all before rest : List PlacedEntry) (n : Numbering A) : Type 0 where

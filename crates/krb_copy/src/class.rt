@@ -108,20 +108,6 @@ impl<'t, A: Allocator + Copy> Class<'t, A> {
         }
     }
 
-    // Returns what becomes of an entry whose key none of the class has.
-    fn step_at(&self, replace: bool) -> Step<'_>
-        ensures { seen_step result ≡ step_at replace (stays self.now) (places_of self.now) }
-    {
-        let places = self.places();
-        let Some(first) = places.first() else {
-            return Step::Copy(places);
-        };
-        if replace && !self.stays() {
-            return Step::Copy(places);
-        }
-        Step::Clash(*first)
-    }
-
     /// Returns what becomes of an entry of the class that has this key.
     pub fn step(&self, replace: bool, key: &[u8]) -> Step<'_>
         ensures { seen_step result
@@ -130,7 +116,11 @@ impl<'t, A: Allocator + Copy> Class<'t, A> {
         if self.has_key(key) {
             return Step::There;
         }
-        self.step_at(replace)
+        let places = self.places();
+        match places.first() {
+            Some(first) if !replace || self.stays() => Step::Clash(*first),
+            _ => Step::Copy(places),
+        }
     }
 
     /// Adds an entry that was there before the run.

@@ -2,9 +2,8 @@
 
 ghost use Rattle.std.specs.Prelude.{◌≡◌, ◌∷◌, ◌++◌, List, Some, IfOk, IfErr};
 ghost use Rattle.krb_wire.specs.Reading.{principal_parts};
-ghost use Rattle.krb_keytab.specs.Find.{PlacedEntry, placed_entries};
+ghost use Rattle.krb_keytab.specs.Find.{PlacedEntry};
 ghost use Rattle.krb_copy.specs.Copying.{Run, asked_as, copy_run, has_lines, renamed, run_after, run_over, step_of};
-ghost use Rattle.krb_copy.specs.Texts.{AreTexts, asked_texts, entry_texts};
 ghost use Rattle.krb_copy.specs.Made.{Ends, EndsBy, IsMade, IsRefusedBy, Meets, IsRun, name_in};
 
 use crate::class::{Class, Step};
@@ -134,21 +133,23 @@ impl<'t, A: Allocator + Copy> Copying<'t, A> {
     }
 }
 
-// Copies them, by the names and keys of the keytab's entries and the names of those asked for.
-fn copy_by<'t, A: Allocator + Copy, B: Allocator>(
+/// Copies the entries asked for, which have their places in another keytab, in order, under their own names or all under
+/// the new one, with the name type of each. One with name, kvno, enctype and key of an entry of the keytab is passed over.
+/// One with the name, kvno and enctype of others clashes, or with `replace` takes their place, unless one of these was
+/// copied before or has the key of an entry asked for before. Refused as an addition is; one that is refused after a clash
+/// ends the run. Takes time n log n in the bytes of both.
+pub fn copy_into<A: Allocator + Copy, B: Allocator>(
     alloc: A,
-    asked: &'t [(u32, EntryView<'t>)],
+    asked: &[(u32, EntryView<'_>)],
     new_name: Option<&Principal<B>>,
-    texts: &'t Texts<A>,
     to: Keytab<A>,
     replace: bool,
 ) -> Result<Copied<A>, Refusal>
-    requires { AreTexts (entry_texts (placed_entries to.state) ++ asked_texts (name_in new_name) asked.now)
-        texts.now.bytes.items texts.now.lens.items }
     ensures made { IfOk result (λ copied. IsMade (copy_run replace (asked_as (name_in new_name.entry) asked.now) to.state)
         copied.text.items copied.clashes.items copied.places.items copied.keytab.state) }
     ensures refused { IfErr result (IsRefusedBy (copy_run replace (asked_as (name_in new_name.entry) asked.now) to.state)) }
 {
+    let texts = Texts::of(alloc, &to, asked, new_name)?;
     let mut left = texts.left();
     let classes = classes_of(alloc, &to, &mut left)?;
     let Ok(keytab) = Indexed::of(alloc, to) else {
@@ -167,31 +168,11 @@ fn copy_by<'t, A: Allocator + Copy, B: Allocator>(
         names: left.names(new_name),
         replace,
     };
-    copying.go_over(alloc, asked, new_name)?;
+    copying.go_over(alloc, &*asked, new_name)?;
     Ok(Copied {
         text: copying.making.text,
         clashes: copying.making.clashes,
         places: copying.making.places,
         keytab: copying.making.keytab.into_keytab(),
     })
-}
-
-/// Copies the entries asked for, which have their places in another keytab, in order, under their own names or all under
-/// the new one, with the name type of each. One with name, kvno, enctype and key of an entry of the keytab is passed over.
-/// One with the name, kvno and enctype of others clashes, or with `replace` takes their place, unless one of these was
-/// copied before or has the key of an entry asked for before. Refused as an addition is; one that is refused after a clash
-/// ends the run. Takes time n log n in the bytes of both.
-pub fn copy_into<A: Allocator + Copy, B: Allocator>(
-    alloc: A,
-    asked: &[(u32, EntryView<'_>)],
-    new_name: Option<&Principal<B>>,
-    to: Keytab<A>,
-    replace: bool,
-) -> Result<Copied<A>, Refusal>
-    ensures made { IfOk result (λ copied. IsMade (copy_run replace (asked_as (name_in new_name.entry) asked.now) to.state)
-        copied.text.items copied.clashes.items copied.places.items copied.keytab.state) }
-    ensures refused { IfErr result (IsRefusedBy (copy_run replace (asked_as (name_in new_name.entry) asked.now) to.state)) }
-{
-    let texts = Texts::of(alloc, &to, asked, new_name)?;
-    copy_by(alloc, &*asked, new_name, &texts, to, replace)
 }

@@ -7,7 +7,6 @@ ghost use Rattle.krb_keytab.specs.Find.{PlacedEntry};
 ghost use Rattle.krb_keytab_text.specs.Listing.{placed_line};
 ghost use Rattle.krb_copy.specs.Diff.{diff_text};
 ghost use Rattle.krb_copy.specs.DiffRows.{AreKeys, first_place, has_key, lacks, marked, row_line, rows_due, shown};
-ghost use Rattle.krb_copy.specs.Texts.{AreTexts, name_texts};
 
 use crate::numbering::{Numbering, Row};
 use crate::texts::Texts;
@@ -27,17 +26,13 @@ struct Keys<'t, A: Allocator> {
     more: BTreeSet<(u32, &'t [u8]), A>,
 }
 
-// Sets the first place and key of a class.
+// Sets what a list has of a class.
 #[tactic(auto, using(std::proofs::lemmas::List::set_past))]
-fn set_first<'t, A: Allocator>(
-    firsts: &mut Vec<Option<(u32, &'t [u8])>, A>,
-    number: u32,
-    first: (u32, &'t [u8]),
-)
-    ensures { firsts.new.items ≡ slice_set firsts.old.items number (Some first.entry) }
+fn set_at<T: Copy, A: Allocator>(list: &mut Vec<T, A>, number: u32, value: T)
+    ensures { list.new.items ≡ slice_set list.old.items number value }
 {
-    if (number as usize) < firsts.len() {
-        firsts[number as usize] = Some(first);
+    if (number as usize) < list.len() {
+        list[number as usize] = value;
     }
 }
 
@@ -46,10 +41,7 @@ impl<'t, A: Allocator + Copy> Keys<'t, A> {
     fn first(&self, number: u32) -> Option<(u32, &'t [u8])>
         ensures { result ≡ get_or self.now.firsts.items number None }
     {
-        match self.firsts.get(number as usize) {
-            Some(first) => *first,
-            None => None,
-        }
+        self.firsts.get(number as usize).copied().unwrap_or(None)
     }
 
     // Adds the next row.
@@ -60,7 +52,7 @@ impl<'t, A: Allocator + Copy> Keys<'t, A> {
     {
         let key = row.entry.key();
         match self.first(row.number) {
-            None => set_first(&mut self.firsts, row.number, (row.place, key)),
+            None => set_at(&mut self.firsts, row.number, Some((row.place, key))),
             Some((_place, first)) => {
                 if first != key {
                     self.more.insert((row.number, key))?;
@@ -90,32 +82,14 @@ impl<'t, A: Allocator + Copy> Keys<'t, A> {
     fn has(&self, number: u32, key: &'t [u8]) -> bool
         ensures { result ≡ has_key self.now number key.now }
     {
-        if let Some((_place, first)) = self.first(number)
-            && key == first
-        {
-            return true;
-        }
-        self.more.contains(&(number, key))
+        self.first(number).is_some_and(|first| key == first.1) || self.more.contains(&(number, key))
     }
 
     // Returns the first place of a class.
     fn first_place(&self, number: u32) -> Option<u32>
         ensures { result ≡ first_place self.now number }
     {
-        match self.first(number) {
-            Some((place, _key)) => Some(place),
-            None => None,
-        }
-    }
-}
-
-// Marks a class.
-#[tactic(auto, using(std::proofs::lemmas::List::set_past))]
-fn set_mark<A: Allocator>(marks: &mut Vec<bool, A>, number: u32)
-    ensures { marks.new.items ≡ slice_set marks.old.items number true }
-{
-    if (number as usize) < marks.len() {
-        marks[number as usize] = true;
+        Some(self.first(number)?.0)
     }
 }
 
@@ -136,7 +110,7 @@ fn mark_row<'t, A: Allocator, B: Allocator + Copy>(
 {
     // What is marked needs no look.
     if !is_marked(marks, row.number) && !keys.has(row.number, row.entry.key()) {
-        set_mark(marks, row.number);
+        set_at(marks, row.number, true);
     }
 }
 
@@ -244,22 +218,6 @@ fn text_of<'t, A: Allocator + Copy>(
     Ok(out)
 }
 
-// Returns the lines, by the names of all entries.
-fn diff_by<'t, A: Allocator + Copy>(
-    alloc: A,
-    ours: &'t [(u32, EntryView<'t>)],
-    others: &'t [(u32, EntryView<'t>)],
-    texts: &'t Texts<A>,
-) -> Result<Vec<u8, A>, NoMemory>
-    requires { AreTexts (name_texts (ours.now ++ others.now)) texts.now.bytes.items texts.now.lens.items }
-    ensures { IfOk result (λ text. text.items ≡ diff_text ours.now others.now) }
-{
-    let mut numbering = Numbering::new(alloc, texts.left());
-    let our_rows = numbering.rows(alloc, ours)?;
-    let other_rows = numbering.rows(alloc, others)?;
-    text_of(alloc, numbering.count() as usize, &our_rows, &other_rows)
-}
-
 /// Returns a line for each name, kvno and enctype whose keys differ, in the order of first entries: `-` if ours alone
 /// have it, `+` if the others alone do, `!` if both do, with other keys. Takes time n log n in the bytes of both.
 pub fn diff_text<A: Allocator + Copy>(
@@ -270,5 +228,8 @@ pub fn diff_text<A: Allocator + Copy>(
     ensures { IfOk result (λ text. text.items ≡ diff_text ours.now others.now) }
 {
     let texts = Texts::of_both(alloc, ours, others)?;
-    diff_by(alloc, &*ours, &*others, &texts)
+    let mut numbering = Numbering::new(alloc, texts.left());
+    let our_rows = numbering.rows(alloc, &*ours)?;
+    let other_rows = numbering.rows(alloc, &*others)?;
+    text_of(alloc, numbering.count() as usize, &our_rows, &other_rows)
 }

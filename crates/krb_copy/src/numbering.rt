@@ -3,7 +3,7 @@
 ghost use Rattle.std.specs.Prelude.{◌≡◌, ◌∷◌, ◌++◌, [], List, map, IfOk, Some, length, unwrap_or};
 ghost use Rattle.std.specs.BTreeMap.{get, Updates};
 ghost use Rattle.krb_keytab.specs.Find.{PlacedEntry};
-ghost use Rattle.krb_copy.specs.Classes.{class_cmp};
+ghost use Rattle.krb_names.specs.Hash.{name_cmp};
 ghost use Rattle.krb_copy.specs.DiffRows.{IsNumbering, row_due, rows_due, shown};
 ghost use Rattle.krb_copy.specs.Texts.{AreTexts, name_texts};
 
@@ -39,8 +39,8 @@ fn number_of<'t, A: Allocator + Clone>(
     key: ClassKey<'t>,
     next: u32,
 ) -> Result<u32, NoMemory>
-    ensures number { IfOk result (λ n. n ≡ unwrap_or (get class_cmp numbers.old key.entry) next) }
-    ensures kept { IfOk result (λ n. Updates class_cmp numbers.old numbers.new key.entry (Some n)) }
+    ensures number { IfOk result (λ n. n ≡ unwrap_or (get name_cmp numbers.old key.entry) next) }
+    ensures kept { IfOk result (λ n. Updates name_cmp numbers.old numbers.new key.entry (Some n)) }
 {
     Ok(*numbers.entry(key)?.or_insert(next))
 }

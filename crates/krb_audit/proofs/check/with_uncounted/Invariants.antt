@@ -1,4 +1,4 @@
-use Rattle.krb_audit.proofs.Cited.{◌≡◌, take, fold, not, counts_at, uncounted, with_if, FINDINGS}
+use Rattle.krb_audit.proofs.Cited.{◌≡◌, take, fold, not, counts_at, with_if, FINDINGS}
 use Rattle.krb_audit.proofs.check.with_uncounted.Given as goal
 
 -- the findings so far are counted, or not

@@ -4,16 +4,10 @@ use Rattle.krb_audit.proofs.RowLemmas.{row_count}
 use Rattle.krb_audit.proofs.findings.check_entries.Goals as goal
 
 pub overflow_cast-count : goal.overflow_cast-count
-overflow_cast-count g c =
-    let k = c.args.keytab.now.state in
-    let rows = c.in_ok-rows.rows in
-    omega (arith, c.len-count.ensures ∙ rows.ok.0 ∙ row_count (placed_entries k) (placed_entries k) rows.items c.in_ok-rows.ensures, c.cell_count-few.ensures.few, c.cell_count-few.ensures.count, entries_few k)
+overflow_cast-count g c = search (arith, row_count, entries_few)
 
 pub returns-clause-count : goal.returns-clause-count
-returns-clause-count g c =
-    let all = placed_entries c.args.keytab.now.state in
-    let rows = c.in_ok-rows.rows in
-    c.len-count.ensures ∙ rows.ok.0 ∙ row_count all all rows.items c.in_ok-rows.ensures
+returns-clause-count g c = search (arith, row_count)
 
 pub entries-init : goal.entries-init
 entries-init g c =

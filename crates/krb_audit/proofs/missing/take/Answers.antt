@@ -1,4 +1,4 @@
-use Rattle.krb_audit.proofs.ForAnswers.{◌∙◌, sym, ap, Bool, cond, List, [], ◌∷◌, ◌++◌, was_new, was_seen}
+use Rattle.krb_audit.proofs.ForAnswers.{◌∙◌, sym, ap, Bool, cond, [], ◌∷◌, ◌++◌, was_new, was_seen}
 use Rattle.krb_audit.proofs.missing.take.Goals as goal
 
 pub returns-in_ok-push : goal.returns-in_ok-push

@@ -1,9 +1,8 @@
-use Rattle.krb_audit.proofs.Cited.{◌≡◌, ℕ, ◌+◌, ◌<◌, List, ◌++◌, length, take, get_or, flat_map, sym, ap, ◌∙◌, arith, flat_map_more, take_more, ABOUT_ENTRIES, finding_line}
+use Rattle.krb_audit.proofs.Cited.{◌≡◌, ℕ, ◌+◌, ◌<◌, List, ◌++◌, length, take, get_or, flat_map, arith, flat_map_more, take_more, ABOUT_ENTRIES, finding_line}
 use Rattle.krb_audit.proofs.report.append_findings.Goals as goal
 
 lines_more : {X : Type 0} (f : X → List ℕ) (xs : List X) (i : ℕ) (d : X) (first old new : List ℕ) → i < length xs → old ≡ first ++ flat_map f (take i xs) → new ≡ old ++ f (get_or xs i d) → new ≡ first ++ flat_map f (take (i + 1) xs)
-lines_more f xs i d first old new lt is more =
-    more ∙ ap (λ (s : List ℕ). s ++ f (get_or xs i d)) is ∙ flat_map_more f first (take i xs) (get_or xs i d) ∙ ap (λ l. first ++ flat_map f l) (sym (take_more xs i d lt))
+lines_more f xs i d first old new lt is more = search (arith, flat_map_more, take_more)
 
 pub findings-preserved : goal.findings-preserved
 findings-preserved g c =

@@ -1,4 +1,6 @@
-use Rattle.krb_copy.proofs.ForAnswers.{List, ℕ, subst, ◌++◌, ◌∷◌, map, name_text, PlacedEntry, placed_entries, as_found, AreTexts, entry_texts, key_of_fields, one_found}
+use Rattle.krb_copy.proofs.ForAnswers.{List, ℕ, [], sym, subst, ◌++◌, ◌∷◌, map, name_text, PlacedEntry, as_found, AreTexts, entry_texts, key_of_fields}
+use Rattle.krb_copy.proofs.Cited.{AreClasses, Held, map_push}
+use Rattle.krb_copy.proofs.FoundTexts.{one_further}
 use Rattle.krb_copy.proofs.classes.classes_of.Goals as goal
 
 pub entries-preserved : goal.entries-preserved
@@ -11,5 +13,9 @@ entries-preserved g c = λ more texts.
     let name = c.next-in-entries.ensures (name_text x.1.principal) (x.1.key ∷ others) left in
     let of_x = key_of_fields x.1 c.fields.result c.next-in-entries.result.now c.class_key-key.result c.fields.ensures.is name.0 c.class_key-key.ensures in
     let key = c.next-secret.ensures x.1.key others name.1 in
-    one_found (placed_entries c.args.keytab.now.state) c.entries.place-iterator rest more x c.entries.classes c.add.new.classes c.entries.texts.bytes.now c.entries.texts.lens.now c.next-secret.new.self.bytes.now c.next-secret.new.self.lens.now f c.in-Some.ensures.steps
-    (c.in_ok-add.ensures (map as_found f.before) x.1 f.classes_are of_x key.0) key.1
+    record {
+      before = f.before ++ x ∷ [];
+      parts = one_further _ f.before _ _ x f.parts c.in-Some.ensures.steps;
+      classes_are = subst (λ (held : List Held). AreClasses [] held c.add.new.classes) (sym (map_push as_found f.before x)) (c.in_ok-add.ensures (map as_found f.before) x.1 f.classes_are of_x key.0);
+      texts = key.1;
+    }

@@ -1,4 +1,4 @@
-use Rattle.krb_audit.proofs.ForAnswers.{◌≡◌, ◌∙◌, ap, sym, subst, List, ℕ, map, take, vec_items, ◌++◌, ◌∷◌, [], is_among, AreTaken, next_among, next_text, seen_in, seen_or, taken_next}
+use Rattle.krb_audit.proofs.ForAnswers.{◌∙◌, ap, sym, subst, List, ℕ, map, take, vec_items, ◌++◌, ◌∷◌, [], is_among, AreTaken, next_among, next_text, seen_in, seen_or, taken_next}
 use Rattle.krb_audit.proofs.missing.Missing.texts.Goals as goal
 
 pub texts-preserved : goal.texts-preserved

@@ -1,8 +1,8 @@
-use Rattle.krb_copy.proofs.ForAnswers.{◌∙◌, sym, ap, refl, cond, true, false, Bool, ◌&&◌, ◌==◌, bytes_eq, contains_by, not-false, nat_list_eq_equiv, bytes_eq-Decides, to_key, names_tie, first_added, key_added, key_known}
+use Rattle.krb_copy.proofs.ForAnswers.{◌∙◌, sym, ap, refl, cond, true, Bool, ◌&&◌, ◌==◌, bytes_eq, contains_by, not-false, nat_list_eq_equiv, bytes_eq-Decides, to_key, names_tie, first_added, key_added, key_known}
 use Rattle.krb_copy.proofs.diff.Keys.push.Goals as goal
 
 pub returns-in-None-clause-keys : goal.returns-in-None-clause-keys
-returns-in-None-clause-keys g c = λ rows lt are. first_added rows c.args.row.now c.args.self.now _ c.key-key.result are lt (sym c.in-None.ensures) c.key-key.ensures c.set_first.ensures refl
+returns-in-None-clause-keys g c = λ rows lt are. first_added rows c.args.row.now c.args.self.now _ c.key-key.result are lt (sym c.in-None.ensures) c.key-key.ensures c.set_at.ensures refl
 
 pub returns-in_ok-insert-in-Some-clause-keys : goal.returns-in_ok-insert-in-Some-clause-keys
 returns-in_ok-insert-in-Some-clause-keys g c = λ rows lt are.
