@@ -177,9 +177,7 @@ no_text xs ys has has_too = ap (flat_map difference_line) (joined xs ys ∙ ap (
 
 no_lines : (ds : List Difference) → flat_map difference_line ds ≡ [] → ds ≡ []
 no_lines [] e = refl
-no_lines (Ours x ∷ ds) e = absurd cc
-no_lines (Both x y ∷ ds) e = absurd cc
-no_lines (Theirs y ∷ ds) e = absurd cc
+no_lines (d ∷ ds) e = search arith
 
 not_differ : (b : Bool) (o p : Option PlacedEntry) → by_firsts b o p ≡ None → is_some o ≡ true → b ≡ false
 not_differ b o p e some = grind arith

@@ -1,5 +1,5 @@
 -- A change of one cell leaves the entries of all others.
-use Rattle.krb_copy.proofs.Cited.{◌≡◌, ℕ, ◌+◌, ◌<◌, Bool, true, cond, List, [], ◌∷◌, ◌++◌, Option, Some, None, Result, Ok, Err, refl, sym, ap, subst, ◌∙◌, inl, inr, arith, map, ◌==◌, AllByRecursion, list_any, append-nil, some_is, Code, EntryParts, PlacedEntry, placed_entries, KeytabState, entry_at_place, put_result, without, ◌≤◌, option_map, filter_map, find, ne_eqb, eqb-true, or_right, cut_store, entry_at, store_of, store_cell, cut_result, cut_gives, put_gives, removal_cuts, addition_puts, none-some, all_front, ◌>>=◌, Cell, Store, Standing, Record, standing, end_from, record_of, record_of_some, bytes_of_some, live_bytes}
+use Rattle.krb_copy.proofs.Cited.{◌≡◌, ℕ, ◌+◌, ◌<◌, Bool, true, List, [], ◌∷◌, ◌++◌, Option, Some, None, Result, Ok, Err, refl, sym, ap, subst, ◌∙◌, inl, inr, arith, map, ◌==◌, AllByRecursion, list_any, append-nil, some_is, Code, EntryParts, PlacedEntry, placed_entries, KeytabState, entry_at_place, put_result, without, ◌≤◌, option_map, filter_map, find, ne_eqb, eqb-true, or_right, cut_store, entry_at, store_of, store_cell, cut_result, cut_gives, put_gives, removal_cuts, addition_puts, none-some, all_front, ◌>>=◌, Cell, Store, Standing, Record, standing, end_from, record_of, live_bytes}
 use Rattle.krb_wire.specs.declared.format.KtFormat.{KtFormat}
 use Rattle.krb_walk.specs.Changes.{Puts}
 use Rattle.krb_walk.proofs.Stops.{bytes_from}
@@ -9,13 +9,10 @@ use Rattle.krb_keytab.proofs.Cuts.{store_sound}
 
 -- ---- cells
 
-same_head : (b : Bool) (x : Standing) (o o' : Option Standing) → bytes_of_some (record_of_some o) ≡ bytes_of_some (record_of_some o') → bytes_of_some (record_of_some (cond b (Some x) o)) ≡ bytes_of_some (record_of_some (cond b (Some x) o'))
-same_head b x o o' e = search arith
-
 -- cells that agree at a place agree there behind others
 behind_same : (at q : ℕ) (before xs ys : List Cell) → bytes_from (end_from at before) xs q ≡ bytes_from (end_from at before) ys q → bytes_from at (before ++ xs) q ≡ bytes_from at (before ++ ys) q
 behind_same at q [] xs ys e = e
-behind_same at q (c ∷ before) xs ys e = same_head (at == q) (record { place = at; cell = c }) _ _ (behind_same (at + c.width) q before xs ys e)
+behind_same at q (c ∷ before) xs ys e = let rest = behind_same (at + c.width) q before xs ys e in grind (arith, rest)
 
 -- ---- one cell becomes another of its width, or is added
 
@@ -86,12 +83,9 @@ entries_from f at cells = filter_map (λ (r : Record). option_map (λ (e : Entry
 abbrev IsReadFrom : KtFormat → ℕ → List Cell → PlacedEntry → Type 0
 IsReadFrom f at cells y = (at ≤ y.0) × ((bytes_from at cells y.0 >>= entry_at f) ≡ Some y.1)
 
-read_by : (f : KtFormat) (at w : ℕ) (live : Option (List ℕ)) (cells : List Cell) → 0 < w → AllByRecursion (IsReadFrom f (at + w) cells) (entries_from f (at + w) cells) → AllByRecursion (IsReadFrom f at (record { width = w; live = live } ∷ cells)) (entries_from f at (record { width = w; live = live } ∷ cells))
-read_by f at w live cells some rest = search (arith, all_mapped, find_tail, find_head)
-
 all_read : (f : KtFormat) (at : ℕ) (cells : List Cell) → AllByRecursion (λ c. 0 < c.width) cells → AllByRecursion (IsReadFrom f at cells) (entries_from f at cells)
 all_read f at [] sound = tt
-all_read f at (c ∷ cells) sound = read_by f at c.width c.live cells sound.0 (all_read f (at + c.width) cells sound.1)
+all_read f at (c ∷ cells) sound = search (arith, all_mapped, find_tail, find_head, all_read f (at + c.width) cells)
 
 -- each entry of a keytab is read at its place
 pub entries_read : (k : KeytabState) → AllByRecursion (λ y. entry_at_place k y.0 ≡ Some y.1) (placed_entries k)
@@ -103,14 +97,9 @@ entries_read k = all_mapped (IsReadFrom k.format 2 (map store_cell k.contents.ce
 abbrev find_at : ℕ → ℕ → ℕ → List Cell → Option Standing
 find_at at w q cells = find (λ x. x.place == q) (standing (at + w) cells)
 
-any_by : (f : KtFormat) (at w q : ℕ) (live : Option (List ℕ)) (cells : List Cell) (e : EntryParts) (p : PlacedEntry → Bool) (b : Bool) → (at == q) ≡ b → p (q, e) ≡ true
-    → (bytes_of_some (record_of_some (cond b (Some (record { place = at; cell = record { width = w; live = live } })) (find_at at w q cells))) >>= entry_at f) ≡ Some e
-    → ((bytes_from (at + w) cells q >>= entry_at f) ≡ Some e → list_any p (entries_from f (at + w) cells) ≡ true) → list_any p (entries_from f at (record { width = w; live = live } ∷ cells)) ≡ true
-any_by f at w q live cells e p b here holds read ih = search (arith, some_is, eqb-true, or_right)
-
 any_read : (f : KtFormat) (at q : ℕ) (cells : List Cell) (e : EntryParts) (p : PlacedEntry → Bool) → p (q, e) ≡ true → (bytes_from at cells q >>= entry_at f) ≡ Some e → list_any p (entries_from f at cells) ≡ true
 any_read f at q [] e p holds read = absurd cc
-any_read f at q (c ∷ cells) e p holds read = any_by f at c.width q c.live cells e p (at == q) refl holds read (any_read f (at + c.width) q cells e p holds)
+any_read f at q (c ∷ cells) e p holds read = search (arith, some_is, eqb-true, or_right, any_read f (at + c.width) q cells e p holds)
 
 -- if an entry is read at a place, one of the entries has what holds of it
 pub any_entry : (k : KeytabState) (q : ℕ) (e : EntryParts) (p : PlacedEntry → Bool) → p (q, e) ≡ true → entry_at_place k q ≡ Some e → list_any p (placed_entries k) ≡ true

@@ -1,5 +1,5 @@
 -- What a run does to the entries of its keytab.
-use Rattle.krb_copy.proofs.Cited.{◌≡◌, ℕ, Bool, true, false, cond, List, [], ◌∷◌, Some, Ok, refl, arith, sym, ap, ◌∙◌, map, filter, not, ◌||◌, AllByRecursion, list_any, bytes_eq, list_any-append, some_is, EntryParts, PlacedEntry, placed_entries, KeytabState, entry_at_place, put_result, without, are_twins, are_same, Held, There, Copy, as_found, as_copied, twins, step_among, step_of, with_copy, added_reads, is_kept, IsInPlace, both_ways, cond_both, not-true, or_from, or_left, or_parts, or_right, all_join, IsEntry, read_back}
+use Rattle.krb_copy.proofs.Cited.{◌≡◌, ℕ, Bool, true, false, cond, List, [], ◌∷◌, Some, Ok, refl, arith, sym, ap, ◌∙◌, map, filter, not, ◌||◌, AllByRecursion, list_any, bytes_eq, list_any-append, EntryParts, PlacedEntry, placed_entries, KeytabState, entry_at_place, put_result, without, are_twins, are_same, Held, There, Copy, as_found, as_copied, twins, step_among, step_of, with_copy, added_reads, is_kept, IsInPlace, cond_both, not-true, or_left, or_right, all_join, IsEntry, read_back}
 use Rattle.krb_copy.proofs.Alike.{twins_equiv, same_equiv, same_are_twins}
 use Rattle.krb_copy.proofs.Passing.{any_either, any_left}
 use Rattle.krb_copy.proofs.Elsewhere.{entries_read, put_elsewhere, without_elsewhere}
@@ -41,14 +41,9 @@ apart_places : (k : KeytabState) (q : ℕ) (e x : EntryParts) (held : List Held)
 apart_places k q e x [] there read other = tt
 apart_places k q e x (h ∷ hs) there read other =
     let rest = apart_places k q e x hs there.1 read other in
+    let f = there.0 in
     cond_both (are_twins x h.entry) (h ∷ twins x hs) (twins x hs) (λ hs. AllByRecursion (λ p. q ≡ p → ⊥) (map (λ g. g.place) hs))
-    (λ twin. (
-      (λ same.
-          let f = there.0 in
-          let is : e ≡ f.0 = some_is e f.0 (sym read ∙ ap (entry_at_place k) same ∙ f.1) in
-          both_ways (are_twins x e) other (ap (are_twins x) is ∙ sym (same_twin x h.entry f.0 f.2) ∙ twin)),
-      rest,
-    )) (λ no_twin. rest)
+    (λ twin. (λ same. grind (arith, same, read, other, twin, f.1, same_twin x h.entry f.0 f.2), rest)) (λ no_twin. rest)
 
 pub stays_after : (k : KeytabState) (held : List Held) (x : EntryParts) (places : List ℕ) (given : ℕ × KeytabState) (q : ℕ) (e : EntryParts) → AreThere k held → places ≡ map (λ h. h.place) (twins x held) → put_result (without k places) x ≡ Ok given
     → entry_at_place k q ≡ Some e → are_twins x e ≡ false → entry_at_place given.1 q ≡ Some e
@@ -75,29 +70,22 @@ pub any_parts : (t p : Held → Bool) (held : List Held) → list_any p held ≡
 any_parts t p [] = refl
 any_parts t p (h ∷ hs) = grind (arith, any_parts t p hs)
 
--- none of those asked for is the same as a twin that goes
-pub none_gone : (before : List EntryParts) (ts : List Held) → list_any (is_kept before) ts ≡ false → AllByRecursion (λ a. list_any (λ h. are_same a h.entry) ts ≡ false) before
-none_gone [] ts none = tt
-none_gone (a ∷ before) ts none =
-    let copied : Held → Bool = λ g. g.is_copied in
-    let same : Held → Bool = λ g. are_same a g.entry in
-    let others : Held → Bool = λ g. list_any (λ b. are_same b g.entry) before in
-    let h = or_parts _ _ (sym (any_either copied (λ g. same g || others g) ts) ∙ none) in
-    let k = or_parts _ _ (sym (any_either same others ts) ∙ h.1) in
-    (k.0, none_gone before ts (any_either copied others ts ∙ or_from _ _ h.0 k.1))
-
 held_after : (x : EntryParts) (held : List Held) (place : ℕ) (a : EntryParts) → list_any (λ h. are_same a h.entry) (twins x held) ≡ false → IsHeld held a → IsHeld (with_copy held x place) a
 held_after x held place a none is =
-    let rest : list_any (λ h. are_same a h.entry) (filter (λ h. not (are_twins x h.entry)) held) ≡ true =
-    sym (ap (λ (b : Bool). b || list_any (λ h. are_same a h.entry) (filter (λ h. not (are_twins x h.entry)) held)) none) ∙ sym (any_parts (λ h. are_twins x h.entry) (λ h. are_same a h.entry) held) ∙ is in
-    list_any-append (λ h. are_same a h.entry) (filter (λ h. not (are_twins x h.entry)) held) (as_copied place x ∷ []) ∙ or_left _ _ rest
+    grind (arith, none, is, any_parts (λ h. are_twins x h.entry) (λ h. are_same a h.entry) held, list_any-append (λ h. are_same a h.entry) (filter (λ h. not (are_twins x h.entry)) held) (as_copied place x ∷ []))
 
 pub copy_held : (x : EntryParts) (held : List Held) (place : ℕ) → IsHeld (with_copy held x place) x
 copy_held x held place = list_any-append (λ h. are_same x h.entry) (filter (λ h. not (are_twins x h.entry)) held) (as_copied place x ∷ []) ∙ or_right _ _ (or_left _ _ (same_equiv.refl x))
 
-pub all_held_after : (x : EntryParts) (held : List Held) (place : ℕ) (before : List EntryParts) → AllByRecursion (λ a. list_any (λ h. are_same a h.entry) (twins x held) ≡ false) before → AllByRecursion (IsHeld held) before → AllByRecursion (IsHeld (with_copy held x place)) before
+-- what was held is held after a copy, as no twin of it that goes was kept
+pub all_held_after : (x : EntryParts) (held : List Held) (place : ℕ) (before : List EntryParts) → list_any (is_kept before) (twins x held) ≡ false → AllByRecursion (IsHeld held) before → AllByRecursion (IsHeld (with_copy held x place)) before
 all_held_after x held place [] none are = tt
-all_held_after x held place (a ∷ before) none are = (held_after x held place a none.0 are.0, all_held_after x held place before none.1 are.1)
+all_held_after x held place (a ∷ before) none are =
+    let same : Held → Bool = λ g. are_same a g.entry in
+    let others : Held → Bool = λ g. list_any (λ b. are_same b g.entry) before in
+    let both = any_either (λ g. g.is_copied) (λ g. same g || others g) (twins x held) in
+    let either = any_either same others (twins x held) in
+    (held_after x held place a (grind (arith, none, both, either)) are.0, all_held_after x held place before (grind (arith, none, both, either, any_either (λ g. g.is_copied) others (twins x held))) are.1)
 
 any_there : (x : EntryParts) (held : List Held) → list_any (λ h. bytes_eq x.key h.entry.key) (twins x held) ≡ list_any (λ h. are_same x h.entry) held
 any_there x held = any_left (λ h. are_twins x h.entry) (λ h. bytes_eq x.key h.entry.key) held

@@ -3,7 +3,7 @@ use Rattle.krb_copy.proofs.Cited.{⊤, ◌≡◌, ℕ, Bool, true, false, List, 
 use Rattle.krb_copy.proofs.Alike.{same_equiv}
 use Rattle.krb_copy.proofs.Elsewhere.{all_mapped, any_entry}
 use Rattle.krb_copy.proofs.RunSteps.{after_step, kept_over, over_all}
-use Rattle.krb_copy.proofs.LawLemmas.{AreThere, IsHeld, start_there, copy_step, stays_after, copy_there, none_gone, copy_held, all_held_after, held_there, there_held}
+use Rattle.krb_copy.proofs.LawLemmas.{AreThere, IsHeld, start_there, copy_step, stays_after, copy_there, copy_held, all_held_after, held_there, there_held}
 
 -- the entries without their places
 abbrev pub bare : List PlacedEntry → List EntryParts
@@ -34,7 +34,7 @@ are_held replace = kept_over replace (λ x. IsEntry x.1) (λ run. has_lines run.
     (λ x run fits are e clean. all_join (IsHeld run.held) run.before (x.1 ∷ []) (are clean) (held_there replace run.before run.held x.1 e, tt))
     (λ x run twin fits are e clean. absurd (both_ways _ clean (has_more run.clashes _ _)))
     (λ x run places given fits are e put clean. all_join (IsHeld (with_copy run.held x.1 given.0)) run.before (x.1 ∷ [])
-    (all_held_after x.1 run.held given.0 run.before (none_gone run.before _ (copy_step replace run.before run.held x.1 places e).none_stays) (are clean)) (copy_held x.1 run.held given.0, tt))
+    (all_held_after x.1 run.held given.0 run.before (copy_step replace run.before run.held x.1 places e).none_stays (are clean)) (copy_held x.1 run.held given.0, tt))
 
 -- ---- the laws
 

@@ -1,5 +1,5 @@
 -- After a run nothing else is in the keytab than was there or is asked for.
-use Rattle.krb_copy.proofs.Cited.{◌≡◌, ℕ, Bool, true, List, [], ◌∷◌, ◌++◌, Some, inl, inr, Ok, sym, ap, ◌∙◌, ◌==◌, ◌||◌, map, AllByRecursion, list_any, list_any-append, some_is, EntryParts, PlacedEntry, placed_entries, KeytabState, entry_at_place, are_same, Held, Run, as_copied, as_found, copy_run, run_over, run_start, with_copy, cases_Bool, eqb-true, or_right, or_left, get_or, NothingElse, All-filter, All-from_recursion, recursion_from_All, all_join}
+use Rattle.krb_copy.proofs.Cited.{◌≡◌, arith, ℕ, Bool, true, List, [], ◌∷◌, ◌++◌, Some, Ok, ◌∙◌, ◌==◌, map, AllByRecursion, list_any, list_any-append, EntryParts, PlacedEntry, placed_entries, KeytabState, entry_at_place, are_same, Held, Run, as_copied, as_found, copy_run, run_over, run_start, with_copy, eqb-true, or_right, or_left, get_or, NothingElse, All-filter, All-from_recursion, recursion_from_All, all_join}
 use Rattle.krb_copy.proofs.Alike.{same_equiv}
 use Rattle.krb_copy.proofs.Elsewhere.{all_mapped}
 use Rattle.std.proofs.lemmas.List.Folds.{list_any_at}
@@ -35,19 +35,13 @@ over all replace = kept_over replace (λ x. IsAmong all x.1) (λ run. AreAmong a
 
 same_among : (all : List PlacedEntry) (a b : EntryParts) → are_same a b ≡ true → IsAmong all a → IsAmong all b
 same_among [] a b same is = absurd cc
-same_among (x ∷ xs) a b same is =
-    let each : (y : PlacedEntry) → are_same y.1 a ≡ are_same y.1 b = λ y. same_equiv.symm y.1 a ∙ same_equiv.congr a b y.1 same ∙ same_equiv.symm b y.1 in
-    sym (ap (λ (p : PlacedEntry → Bool). list_any p (x ∷ xs)) (λ i y. each y i)) ∙ is
+same_among (x ∷ xs) a b same is = grind (arith, is, same_among xs a b same, same_equiv.congr a b x.1 same, same_equiv.symm x.1 a, same_equiv.symm x.1 b)
 
 at_place : (all : List PlacedEntry) (k : KeytabState) (held : List Held) (place : ℕ) (e : EntryParts) → AreThere k held → AreAmong all held → list_any (λ h. h.place == place) held ≡ true → entry_at_place k place ≡ Some e → IsAmong all e
 at_place all k [] place e there are any read = absurd cc
-at_place all k (h ∷ hs) place e there are any read = elim (cases_Bool (h.place == place)) [
-  | inl here ↦
-      let f = there.0 in
-      let is : f.0 ≡ e = some_is f.0 e (sym f.1 ∙ ap (entry_at_place k) (eqb-true h.place place here) ∙ read) in
-      same_among all h.entry e (sym (ap (are_same h.entry) is) ∙ f.2) are.0
-  | inr other ↦ at_place all k hs place e there.1 are.1 (sym (ap (λ (b : Bool). b || list_any (λ g. g.place == place) hs) other) ∙ any) read
-]
+at_place all k (h ∷ hs) place e there are any read =
+    let f = there.0 in
+    grind (arith, any, read, f.1, f.2, are.0, eqb-true h.place place, same_among all h.entry e, at_place all k hs place e there.1 are.1)
 
 pub nothing_else : NothingElse
 unfolding copy_run

@@ -1,4 +1,4 @@
-use Rattle.krb_copy.proofs.ForAnswers.{◌≡◌, ◌∙◌, ap, sym, subst, false, length, get_or, ◌||◌, Bool, List, ℕ, ◌<◌, length-replicate, All, lacks, Row, all_marked, as_long, get_or_none}
+use Rattle.krb_copy.proofs.ForAnswers.{◌≡◌, refl, ◌∙◌, ap, sym, subst, false, length, ℕ, ◌<◌, length-replicate, All, all_marked, as_long, get_or_none}
 use Rattle.std.proofs.Common.{replicate, rules}
 use Rattle.krb_copy.proofs.diff.marks_of.Goals as goal
 
@@ -11,9 +11,6 @@ returns g c = λ below below_too n.
     let none : start ≡ replicate len false = search rules in
     let long : length start ≡ len = ap length none ∙ length-replicate len false in
     let long_too : length next ≡ len = ap length c.mark.ensures ∙ as_long c.args.other_keys.now ours start ∙ long in
-    let places : (l : ℕ) → List Row → Type 0 = λ l rs. All (λ r. r.number < l) rs in
-    ap (λ (l : List Bool). get_or l n false) c.mark-2.ensures
-    ∙ all_marked c.args.our_keys.now n c.args.others.now next (subst (λ (l : ℕ). places l c.args.others.now) (sym long_too) below_too)
-    ∙ ap (λ (l : List Bool). get_or l n false || lacks c.args.our_keys.now n c.args.others.now) c.mark.ensures
-    ∙ ap (λ (b : Bool). b || lacks c.args.our_keys.now n c.args.others.now) (all_marked c.args.other_keys.now n ours start (subst (λ (l : ℕ). places l ours) (sym long) below))
-    ∙ ap (λ (b : Bool). (b || lacks c.args.other_keys.now n ours) || lacks c.args.our_keys.now n c.args.others.now) (ap (λ (l : List Bool). get_or l n false) none ∙ get_or_none len n false)
+    let first = all_marked c.args.other_keys.now n ours start (subst (λ (l : ℕ). All (λ r. r.number < l) ours) (sym long) below) in
+    let second = all_marked c.args.our_keys.now n c.args.others.now next (subst (λ (l : ℕ). All (λ r. r.number < l) c.args.others.now) (sym long_too) below_too) in
+    rw (c.mark-2.ensures, second, c.mark.ensures, first, none, get_or_none len n false) refl
