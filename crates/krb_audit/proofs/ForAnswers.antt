@@ -4,7 +4,7 @@ pub use Rattle.krb_audit.proofs.AskedNames.{some_asked}
 pub use Rattle.krb_audit.proofs.CountsLemmas.{added, added_ge, hole_added, hole_counted, holes_few, holes_small}
 pub use Rattle.krb_audit.proofs.FindingsLemmas.{IsCheckedUpTo, ended_here}
 pub use Rattle.krb_audit.proofs.KvnoMarkLemmas.{are_marks, are_young, marked}
-pub use Rattle.krb_audit.proofs.MissingLemmas.{AreTaken, next_among, next_text, seen_in, seen_next, seen_or, taken_next, was_new, was_seen}
+pub use Rattle.krb_audit.proofs.MissingLemmas.{AreTaken, next_among, next_text, seen_in, seen_next, seen_or, taken_next}
 pub use Rattle.krb_audit.proofs.NewestStamps.{are_newest, renewed}
 pub use Rattle.krb_audit.proofs.Numbering.{first_here, none_numbered, numbered_next}
 pub use Rattle.krb_audit.proofs.SelectedLemmas.{IsOnTheWay, one_further}

@@ -1,5 +1,5 @@
 -- Names that are missing, as the code holds them, and as the definitions have them.
-use Rattle.krb_audit.proofs.Cited.{◌≡◌, ℕ, Bool, true, false, cond, List, [], ◌∷◌, ◌++◌, sym, ap, subst, ◌∙◌, ◌||◌, ◌&&◌, not, filter, fold, list_any, list_any-append, map, map_push, append-nil, bytes_eq, PlacedEntry, ◌<◌, ◌+◌, arith, take, get_or, length, vec_items, Parts, get_or-map, length-map, take_more, filter-append, list_any_at, nat_list_eq_equiv, bytes_eq-Decides, Vec, Bor, name_text, AreMarked, is_among, added_once, prints_as}
+use Rattle.krb_audit.proofs.Cited.{◌≡◌, ℕ, Bool, true, false, cond, List, [], ◌∷◌, ◌++◌, sym, ap, subst, ◌∙◌, ◌||◌, not, filter, fold, list_any, list_any-append, map, map_push, append-nil, bytes_eq, PlacedEntry, ◌<◌, ◌+◌, arith, take, get_or, length, vec_items, Parts, get_or-map, length-map, take_more, filter-append, list_any_at, nat_list_eq_equiv, bytes_eq-Decides, Vec, Bor, name_text, AreMarked, is_among, added_once, prints_as}
 use Rattle.std.proofs.lemmas.List.Sums.{fold-append}
 use Rattle.krb_names.specs.declared.marks.NameMarks.{NameMarks}
 
@@ -45,13 +45,6 @@ missing_next : (seen : List ℕ → Bool) (done : List (List ℕ)) (text : List 
 missing_next seen done text = search (arith, fold-append, added_by, among_once)
 
 -- ---- the wanted texts, one after the other
-
--- a wanted text that was not marked is missing, and one that was is not
-pub was_new : (marked among was : Bool) → was ≡ (among && marked) → among ≡ true → was ≡ false → marked ≡ false
-was_new marked among was is there new = grind (arith, is, there, new)
-
-pub was_seen : (marked among was : Bool) → was ≡ (among && marked) → was ≡ true → marked ≡ true
-was_seen marked among was is old = grind (arith, is, old)
 
 -- a text was seen, or is among those
 abbrev pub seen_or : (List ℕ → Bool) → List (List ℕ) → List ℕ → Bool

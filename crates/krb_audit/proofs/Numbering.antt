@@ -1,5 +1,5 @@
 -- The names of entries are numbered, one entry after the other.
-use Rattle.krb_audit.proofs.Cited.{◌≡◌, arith, ℕ, ◌+◌, Bool, cond, List, [], ◌∷◌, ◌++◌, length, map, Option, Some, refl, sym, ap, ◌∙◌, append_assoc, bytes_eq, KtFormat, Parts, have_same_name, PlacedEntry, Row, Stamp, AreNumbered, first_number, stamp_of, kt_name, unwrap_or, option_or, length_push, map_push, FitsKt, HashedName, hash_of, name_cmp, to_name, first_from, row_in, shown, Bor, Names}
+use Rattle.krb_audit.proofs.Cited.{◌≡◌, arith, ℕ, ◌+◌, Bool, cond, List, [], ◌∷◌, ◌++◌, length, Option, Some, refl, ap, ◌∙◌, append_assoc, bytes_eq, KtFormat, Parts, have_same_name, PlacedEntry, Row, AreNumbered, first_number, stamp_of, kt_name, unwrap_or, option_or, length_push, map_push, FitsKt, HashedName, hash_of, name_cmp, to_name, first_from, Bor, Names}
 use Rattle.std.specs.BTreeMap.{BTreeMap, get, get_by, Updates}
 use Rattle.krb_names.proofs.NameOrder.{hashes_tie}
 use Rattle.krb_audit.proofs.FirstNumbers.{first_alike}
@@ -42,19 +42,9 @@ pub numbered_next : {A : Type 0} (f : KtFormat) (all rest : List PlacedEntry) (x
     → first_number x.1.principal all ≡ Some row.first → row.stamp ≡ stamp_of x.1 → Updates name_cmp names.numbers new.numbers (hash, name) (Some row.first) → new.rows.items ≡ names.rows.items ++ row ∷ [] → AreNumbered f all rest new
 numbered_next f all rest x names new hash name row h fits hash_is name_is here stamp updates pushed = record {
   numbers = λ p fits_too.
-      let b = have_same_name p x.1.principal in
-      let old : Option ℕ = found names.numbers (kt_name f p) in
-      let n = length names.rows.items in
-      let number : found new.numbers (kt_name f p) ≡ cond b (Some row.first) old =
-      found_next names.numbers new.numbers hash name row.first hash_is updates (kt_name f p)
-      ∙ ap (λ (c : List ℕ). cond (bytes_eq c (kt_name f p)) (Some row.first) old) name_is
-      ∙ ap (λ (c : Bool). cond c (Some row.first) old) (same_bytes f x.1.principal p fits fits_too ∙ same_equiv.symm x.1.principal p) in
-      ap (λ (o : Option ℕ). option_or o (first_from (length new.rows.items) p rest)) number
-      ∙ ap (λ (m : ℕ). option_or (cond b (Some row.first) old) (first_from m p rest)) (ap length pushed ∙ length_push names.rows.items row)
-      ∙ number_by all rest x p old n row.first b refl here (h.numbers p fits_too);
-  rows =
-      let is : shown row ≡ row_in all x = λ i. (sym here i, stamp i) in
-      ap (λ (rs : List Row). map shown rs ++ map (row_in all) rest) pushed ∙ ap (λ (l : List (Option ℕ × Stamp)). l ++ map (row_in all) rest) (map_push shown names.rows.items row)
-      ∙ append_assoc (map shown names.rows.items) (shown row ∷ []) (map (row_in all) rest)
-      ∙ ap (λ (s : Option ℕ × Stamp). map shown names.rows.items ++ s ∷ map (row_in all) rest) is ∙ h.rows;
+      let number = found_next names.numbers new.numbers hash name row.first hash_is updates (kt_name f p) in
+      let same = same_bytes f x.1.principal p fits fits_too in
+      let by = number_by all rest x p (found names.numbers (kt_name f p)) (length names.rows.items) row.first (have_same_name p x.1.principal) refl here (h.numbers p fits_too) in
+      grind (arith, number, same, by, name_is, pushed, same_equiv.symm x.1.principal p, length_push names.rows.items row);
+  rows = search (arith, pushed, map_push, append_assoc);
 }

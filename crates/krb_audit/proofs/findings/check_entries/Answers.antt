@@ -24,8 +24,9 @@ entries-init g c =
 pub entries-preserved-in-Continue-branch-5 : goal.entries-preserved-in-Continue-branch-5
 entries-preserved-in-Continue-branch-5 g c =
     let k = c.args.keytab.now.state in
-    let was = subst (λ (xs : List PlacedEntry). IsCheckedUpTo c.args.aged_by k (map vec_items c.args.wanted.now) xs c.entries.before c.entries.entries.items) c.in-Some.ensures.steps c.entries.invariant in
-    one_checked c.args.aged_by k (map vec_items c.args.wanted.now) _ _ _ _ _ _ _ true was (λ before known. c.in_ok-marks.ensures k (map vec_items c.args.wanted.now) before _ known) (sym c.has_some.ensures ∙ c.if-has_some.true) c.in_ok-push.ensures.items
+    let wanted = map vec_items c.args.wanted.now in
+    let was = subst (λ (xs : List PlacedEntry). IsCheckedUpTo c.args.aged_by k wanted xs c.entries.before c.entries.entries.items) c.in-Some.ensures.steps c.entries.invariant in
+    one_checked c.args.aged_by k wanted _ _ _ _ _ _ _ true was (λ before known. c.in_ok-marks.ensures k wanted before _ known) (sym c.has_some.ensures ∙ c.if-has_some.true) c.in_ok-push.ensures.items
 
 pub entries-preserved : goal.entries-preserved
 entries-preserved g c =

@@ -3,7 +3,7 @@ use Rattle.krb_audit.proofs.NameBytes.{opens, is_read, lengths, name_taken}
 use Rattle.krb_audit.proofs.names.named_entry.Goals as goal
 
 pub returns-in_err-rest-clause-entry : goal.returns-in_err-rest-clause-entry
-returns-in_err-rest-clause-entry c = absurd (is_read c.args.format c.in_ok-entry.entry c.args.bytes.now c.in_ok-entry.ensures.found c.in_err-rest.ensures)
+returns-in_err-rest-clause-entry c = search (arith, is_read)
 
 pub overflow_sub-end : goal.overflow_sub-end
 overflow_sub-end c =
