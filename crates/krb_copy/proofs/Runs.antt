@@ -1,5 +1,5 @@
 -- A run and its definition, entry by entry.
-use Rattle.krb_copy.proofs.Cited.{◌≡◌, ℕ, ◌+◌, ◌<◌, Bool, true, false, cond, List, [], ◌∷◌, ◌++◌, length, drop, Option, Result, Ok, Err, refl, sym, ap, subst, ◌∙◌, Code, PlacedEntry, KeytabState, put_result, without, Run, Copy, asked_as, step_of, with_copy, run_after, run_added, has_lines, run_over, go_on, AreClasses, AreNames, get_or, drop_more, copied_lines, IsRefusal, IsRun, Meets, Ends, EndsBy, Parts, PutGives, Copying}
+use Rattle.krb_copy.proofs.Cited.{◌≡◌, ℕ, ◌+◌, ◌<◌, Bool, true, false, cond, List, [], ◌∷◌, ◌++◌, length, drop, Option, Result, Ok, Err, refl, sym, ap, subst, ◌∙◌, Code, PlacedEntry, KeytabState, put_result, without, Run, Copy, asked_as, step_of, with_copy, run_after, run_added, has_lines, run_over, go_on, AreClasses, AreNames, get_or, drop_more, copied_lines, IsRefusal, IsRun, Meets, Ends, end_at, Parts, PutGives, Copying}
 use Rattle.krb_walk.specs.declared.refusal.Refusal.{Refusal}
 use Rattle.krb_walk.specs.declared.refusal.Refusal.TheVariants.{Code as ByCode, NoMemory}
 
@@ -53,31 +53,27 @@ all_met due replace copying w = record { run = w.now; is_due = sym w.same; text_
 no_clash : {P : Type 0} (b : Bool) → b ≡ true → b ≡ false → P
 no_clash b t f = let clash : true ≡ false = sym t ∙ f in absurd cc
 
-ended_by : {A : Type 0} (due : Result Run Code) (now : Run) (code : Code) (b : Bool) (result : Result (Unit {0}) Refusal) (new : Copying A) → has_lines new.making.clashes.items ≡ b → cond (has_lines now.clashes) (Ok now) (Err code) ≡ due → new.making.text.items ≡ now.text → new.making.clashes.items ≡ now.clashes
-    → EndsBy b (ByCode code) result → Ends due result new
-ended_by due now code true (Ok done) new is same text clash ends = record {
-  run = now;
-  is_due = sym same ∙ ap (λ (b : Bool). cond b (Ok now) (Err code)) (sym (ap has_lines clash) ∙ is);
-  text_is = text;
-  clashes_are = clash;
-  places_are = λ f. no_clash (has_lines now.clashes) (sym (ap has_lines clash) ∙ is) f;
-  keytab_is = λ f. no_clash (has_lines now.clashes) (sym (ap has_lines clash) ∙ is) f;
-}
-ended_by due now code true (Err refusal) new is same text clash ends = absurd cc
-ended_by due now code false result new is same text clash ends =
-    subst (λ (r : Result (Unit {0}) Refusal). Ends due r new) (sym ends) (sym same ∙ ap (λ (b : Bool). cond b (Ok now) (Err code)) (sym (ap has_lines clash) ∙ is))
-
-out_of_memory : (b : Bool) (result : Result (Unit {0}) Refusal) → EndsBy b NoMemory result → result ≡ Err NoMemory
-out_of_memory true result e = e
-out_of_memory false result e = e
+ended_by : {A : Type 0} (due : Result Run Code) (now : Run) (code : Code) (b : Bool) (new : Copying A) → has_lines new.making.clashes.items ≡ b → cond (has_lines now.clashes) (Ok now) (Err code) ≡ due → new.making.text.items ≡ now.text → new.making.clashes.items ≡ now.clashes
+    → Ends due (end_at b (ByCode code)) new
+ended_by due now code true new is same text clash =
+    let clashed = sym (ap has_lines clash) ∙ is in
+    record {
+      run = now;
+      is_due = sym same ∙ ap (λ (b : Bool). cond b (Ok now) (Err code)) clashed;
+      text_is = text;
+      clashes_are = clash;
+      places_are = λ f. no_clash (has_lines now.clashes) clashed f;
+      keytab_is = λ f. no_clash (has_lines now.clashes) clashed f;
+    }
+ended_by due now code false new is same text clash = sym same ∙ ap (λ (b : Bool). cond b (Ok now) (Err code)) (sym (ap has_lines clash) ∙ is)
 
 -- a refusal
-pub ended : {A : Type 0} (due : Result Run Code) (replace : Bool) (x : PlacedEntry) (rest : List PlacedEntry) (old new : Copying A) (refusal : Refusal) (result : Result (Unit {0}) Refusal) → (w : IsOnTheWay due replace (x ∷ rest) old)
-    → Meets w.now rest (run_after w.now x (step_of old.replace w.now.before w.now.held x.1)) (Err refusal) new → EndsBy (has_lines new.making.clashes.items) refusal result → Ends due result new
-ended due replace x rest old new (ByCode code) result w meets ends =
+pub ended : {A : Type 0} (due : Result Run Code) (replace : Bool) (x : PlacedEntry) (rest : List PlacedEntry) (old new : Copying A) (refusal : Refusal) → (w : IsOnTheWay due replace (x ∷ rest) old)
+    → Meets w.now rest (run_after w.now x (step_of old.replace w.now.before w.now.held x.1)) (Err refusal) new → Ends due (end_at (has_lines new.making.clashes.items) refusal) new
+ended due replace x rest old new (ByCode code) w meets =
     let same : cond (has_lines w.now.clashes) (Ok w.now) (Err code) ≡ due = ap (go_on (run_over replace rest) w.now) (sym meets.0 ∙ ap (λ (b : Bool). run_after w.now x (step_of b w.now.before w.now.held x.1)) w.replace_is) ∙ w.same in
-    ended_by due w.now code (has_lines new.making.clashes.items) result new refl same meets.1 meets.2 ends
-ended due replace x rest old new NoMemory result w meets ends = subst (λ (r : Result (Unit {0}) Refusal). Ends due r new) (sym (out_of_memory (has_lines new.making.clashes.items) result ends)) tt
+    ended_by due w.now code (has_lines new.making.clashes.items) new refl same meets.1 meets.2
+ended due replace x rest old new NoMemory w meets = tt
 
 -- the entry that is met is the first of those that are left
 pub first_left : {A : Type 0} (due : Result Run Code) (replace : Bool) (name : Option Parts) (asked : List PlacedEntry) (i : ℕ) (x : PlacedEntry) (copying : Copying A) → i < length asked → x ≡ get_or asked i x

@@ -1,5 +1,5 @@
 -- What a run has made, by its definition.
-use Rattle.std.specs.Prelude.{◌≡◌, ℕ, List, Bool, true, false, Option, option_map, Result, Ok, Err, IsOk}
+use Rattle.std.specs.Prelude.{◌≡◌, ℕ, List, Bool, true, false, Option, option_map, Result, Ok, Err}
 use denote.Ref.{Bor}
 use Rattle.krb_walk.specs.declared.refusal.Code.{Code}
 use Rattle.krb_walk.specs.declared.refusal.Refusal.{Refusal}
@@ -59,8 +59,8 @@ abbrev pub Ends : {A : Type 0} → Result Run Code → Result (Unit {0}) Refusal
 Ends due (Ok done) new = IsMade due new.making.text.items new.making.clashes.items new.making.places.items new.making.keytab.state
 Ends due (Err refusal) new = IsRefusedBy due refusal
 
--- a refusal by a code only ends the run if an entry has clashed; else it is the run's
-abbrev pub EndsBy : Bool → Refusal → Result (Unit {0}) Refusal → Type 0
-EndsBy true (ByCode code) result = IsOk result
-EndsBy false (ByCode code) result = result ≡ Err (ByCode code)
-EndsBy clashed NoMemory result = result ≡ Err NoMemory
+-- how a run ends at a refusal: one by a code only ends it if an entry has clashed; else it is the run's
+abbrev pub end_at : Bool → Refusal → Result (Unit {0}) Refusal
+end_at true (ByCode code) = Ok tt
+end_at false (ByCode code) = Err (ByCode code)
+end_at clashed NoMemory = Err NoMemory

@@ -4,7 +4,7 @@ ghost use Rattle.std.specs.Prelude.{◌≡◌, ◌∷◌, ◌++◌, List, Some, 
 ghost use Rattle.krb_wire.specs.Reading.{principal_parts};
 ghost use Rattle.krb_keytab.specs.Find.{PlacedEntry};
 ghost use Rattle.krb_copy.specs.Copying.{Run, asked_as, copy_run, has_lines, renamed, run_after, run_over, step_of};
-ghost use Rattle.krb_copy.specs.Made.{Ends, EndsBy, IsMade, IsRefusedBy, Meets, IsRun, name_in};
+ghost use Rattle.krb_copy.specs.Made.{Ends, IsMade, IsRefusedBy, IsRun, Meets, end_at, name_in};
 
 use crate::class::{Class, Step};
 use crate::classes::{Classes, class_key, classes_of};
@@ -106,7 +106,7 @@ impl<'t, A: Allocator + Copy> Copying<'t, A> {
 
     // Ends the run at a refusal.
     fn end(&self, refusal: Refusal) -> Result<(), Refusal>
-        ensures { EndsBy (has_lines self.now.making.clashes.items) refusal result }
+        ensures { result ≡ end_at (has_lines self.now.making.clashes.items) refusal }
     {
         match refusal {
             Refusal::Code(_) if !self.making.clashes.is_empty() => Ok(()),

@@ -4,7 +4,7 @@ use Rattle.krb_copy.proofs.copy.Copying.go_over.Goals as goal
 pub returns-in-Err : goal.returns-in-Err
 returns-in-Err g c = λ run s.
     let w = first_left _ _ _ c.args.asked.now c.asked.place-index _ _ (omega arith) c.asked-item.is (c.asked.invariant run s) in
-    ended _ _ _ _ _ _ c.in-Err.refusal _ w (c.in-Err.ensures.meets w.now _ w.is_run) c.end.ensures
+    rw c.end.ensures (ended _ _ _ _ _ _ c.in-Err.refusal w (c.in-Err.ensures.meets w.now _ w.is_run))
 
 pub asked-preserved : goal.asked-preserved
 asked-preserved g c = λ run s.
