@@ -1,5 +1,5 @@
 -- Splitting a text, piece by piece.
-use Rattle.krb_text.proofs.Cited.{◌≡◌, ℕ, suc, ◌+◌, ◌-◌, ◌<◌, ◌≤◌, Bool, true, false, cond, List, [], ◌∷◌, length, take, drop, Option, Some, None, refl, sym, ap, ◌∙◌, add-one, arith, slice_split, position_from, join_with_byte, pieces, pieces_left, joined, count_by-le-length}
+use Rattle.krb_text.proofs.Cited.{◌≡◌, ℕ, suc, ◌+◌, ◌-◌, ◌≤◌, Bool, false, List, [], ◌∷◌, length, take, drop, Option, Some, None, refl, add-one, arith, slice_split, position_from, pieces, pieces_left, joined, count_by-le-length}
 use Rattle.std.specs.Prelude.{◌==◌}
 use Rattle.std.proofs.lemmas.List.Splits.{length-slice_split, join_with_byte-slice_split}
 use Rattle.std.proofs.lemmas.Grind.{common_steps}
@@ -19,36 +19,15 @@ cut_after p k x xs (Some n) e h =
 -- the first piece ends where `position_from` says
 cut_first : (p : ℕ → Bool) (k : ℕ) (xs : List ℕ) → CutAt p k xs (position_from p k xs)
 cut_first p k [] = refl
-cut_first p k (x ∷ xs) =
-    elim (p x) as (λ b. p x ≡ b → CutAt p k (x ∷ xs) (cond b (Some k) (position_from p (k + 1) xs))) [
-      | true ↦ λ e. (0, omega arith, rw e refl)
-      | false ↦ λ e. cut_after p k x xs (position_from p (k + 1) xs) e (cut_first p (k + 1) xs)
-    ] refl
-
--- a slice up to the end is all that follows a place
-rest_of : (n : ℕ) (text : List ℕ) → take (length text - (n + 1)) (drop (n + 1) text) ≡ drop (n + 1) text
-rest_of n text = grind (arith, common_steps)
+cut_first p k (x ∷ xs) = search (arith, cut_after, cut_first p (k + 1) xs)
 
 -- if the first piece ends at n, the text is split there
 pub cut_some : (at n : ℕ) (text : List ℕ) → position_from (λ b. b == at) 0 text ≡ Some n → pieces at text ≡ take n text ∷ pieces at (take (length text - (n + 1)) (drop (n + 1) text))
-cut_some at n text e =
-    let h = rw e at (cut_first (λ b. b == at) 0 text) in
-    let same : h.0 ≡ n = (let is = h.1 in omega (arith, is)) in
-    let rest = rest_of n text in
-    rw rest (rw same at h.2)
+cut_some at n text e = search (arith, common_steps, cut_first)
 
 -- if the first piece does not end, it is the only one
 pub cut_none : (at : ℕ) (text : List ℕ) → position_from (λ b. b == at) 0 text ≡ None → pieces at text ≡ text ∷ []
 cut_none at text e = rw e at (cut_first (λ b. b == at) 0 text)
-
--- there is at least one piece
-no_fewer : (at : ℕ) (text : List ℕ) → 0 < length (pieces at text)
-no_fewer at text = omega (arith, length-slice_split (λ b. b == at) text)
-
--- pieces, if there are any, are joined
-joined_some : (at : ℕ) (ps : List (List ℕ)) → 0 < length ps → Some (join_with_byte at ps) ≡ joined at ps
-joined_some at [] h = absurd (omega arith)
-joined_some at (p ∷ ps) h = refl
 
 -- there is at most one more piece than there are bytes
 pub length-pieces : (at : ℕ) (text : List ℕ) → length (pieces at text) ≤ length text + 1
@@ -57,5 +36,4 @@ length-pieces at text = omega (arith, length-slice_split (λ b. b == at) text, c
 -- the rest of a text is its pieces joined again
 pub joined_left : (at : ℕ) (left : Option (List ℕ)) → left ≡ joined at (pieces_left at left)
 joined_left at None = refl
-joined_left at (Some text) =
-    ap Some (sym (join_with_byte-slice_split at text)) ∙ joined_some at (pieces at text) (no_fewer at text)
+joined_left at (Some text) = grind (arith, join_with_byte-slice_split at text, length-slice_split (λ b. b == at) text)

@@ -38,8 +38,7 @@ next_year y n e =
 
 -- by cases on the outcome of a test
 by_test : {A : Type 0} (P : A → Type 0) (b : Bool) (x y : A) → (b ≡ true → P x) → (b ≡ false → P y) → P (if b then x else y)
-by_test P true x y f g = f refl
-by_test P false x y f g = g refl
+by_test P b x y f g = search arith
 
 -- the day after the one with number n has the next number
 next_numbered : (d : Day) (n : ℕ) → IsNumbered d n → IsNumbered (next_day d) (suc n)

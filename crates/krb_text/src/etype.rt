@@ -22,28 +22,14 @@ struct Row {
     is_weak: bool,
 }
 
-// Returns the row of an enctype with these names.
-fn named(names: &'static [&'static str], key_size: usize, is_weak: bool) -> Row
+fn row_with(names: &'static [&'static str], key_size: Option<usize>, is_weak: bool) -> Row
     ensures names { result.names.now ≡ names.now }
-    ensures key_size { result.key_size ≡ Some key_size }
+    ensures key_size { result.key_size ≡ key_size }
     ensures weak { result.is_weak ≡ is_weak }
 {
     Row {
         names,
-        key_size: Some(key_size),
-        is_weak,
-    }
-}
-
-// Returns the row of an enctype without a name.
-fn unnamed_row(is_weak: bool) -> Row
-    ensures names { result.names.now ≡ [] }
-    ensures key_size { result.key_size ≡ None }
-    ensures weak { result.is_weak ≡ is_weak }
-{
-    Row {
-        names: &[],
-        key_size: None,
+        key_size,
         is_weak,
     }
 }
@@ -56,55 +42,63 @@ fn row_of(etype: u16) -> Row
     ensures weak { result.is_weak ≡ is_weak etype }
 {
     match etype {
-        1 | 2 | 3 | 4 | 6 | 8 | 24 => unnamed_row(true),
-        16 => named(
+        1 | 2 | 3 | 4 | 6 | 8 | 24 => row_with(&[], None, true),
+        16 => row_with(
             &[
                 "des3-cbc-sha1",
                 "des3",
                 "des3-hmac-sha1",
                 "des3-cbc-sha1-kd",
             ],
-            24,
+            Some(24),
             true,
         ),
-        17 => named(
+        17 => row_with(
             &[
                 "aes128-cts-hmac-sha1-96",
                 "aes128",
                 "aes128-cts",
                 "aes128-sha1",
             ],
-            16,
+            Some(16),
             false,
         ),
-        18 => named(
+        18 => row_with(
             &[
                 "aes256-cts-hmac-sha1-96",
                 "aes256",
                 "aes256-cts",
                 "aes256-sha1",
             ],
-            32,
+            Some(32),
             false,
         ),
-        19 => named(&["aes128-cts-hmac-sha256-128", "aes128-sha2"], 16, false),
-        20 => named(&["aes256-cts-hmac-sha384-192", "aes256-sha2"], 32, false),
-        23 => named(
+        19 => row_with(
+            &["aes128-cts-hmac-sha256-128", "aes128-sha2"],
+            Some(16),
+            false,
+        ),
+        20 => row_with(
+            &["aes256-cts-hmac-sha384-192", "aes256-sha2"],
+            Some(32),
+            false,
+        ),
+        23 => row_with(
             &["arcfour-hmac", "rc4", "rc4-hmac", "arcfour-hmac-md5"],
-            16,
+            Some(16),
             true,
         ),
-        25 => named(
+        25 => row_with(
             &["camellia128-cts-cmac", "camellia128", "camellia128-cts"],
-            16,
+            Some(16),
             false,
         ),
-        26 => named(
+        26 => row_with(
             &["camellia256-cts-cmac", "camellia256", "camellia256-cts"],
-            32,
+            Some(32),
             false,
         ),
-        _ => unnamed_row(false),
+        _ => row_with(&[], None, false),
     }
 }
 

@@ -1,6 +1,6 @@
 //! Faults of lines that are read.
 
-ghost use Rattle.std.specs.Prelude.{◌≡◌};
+ghost use Rattle.std.specs.Prelude.{◌≡◌, Some};
 ghost use Rattle.krb_text.specs.declared.line_fault.LineRefusal.TheVariants.{Fault as Faulty, NoMemory as OutOfMemory};
 ghost use Rattle.krb_text.specs.declared.line_fault.ScriptRefusal.TheVariants.{NoMemory as ScriptHasNoMemory};
 ghost use Rattle.krb_text.specs.LineFault.{ktutil_phrase, line_fault_number, line_phrase, refusal_phrase, refusal_text};
@@ -61,8 +61,6 @@ impl LineFault {
 }
 
 impl fmt::Display for LineFault {
-    ghost use Rattle.std.specs.Prelude.{Some};
-
     ghost output = { λ fault. Some (line_phrase fault) };
 
     fn fmt<W: fmt::Write>(&self, f: &mut fmt::Formatter<W>) -> fmt::Result {
@@ -79,8 +77,6 @@ pub enum LineRefusal {
 }
 
 impl fmt::Display for LineRefusal {
-    ghost use Rattle.std.specs.Prelude.{Some};
-
     ghost output = { λ refusal. Some (refusal_phrase refusal) };
 
     fn fmt<W: fmt::Write>(&self, f: &mut fmt::Formatter<W>) -> fmt::Result {
@@ -117,8 +113,6 @@ pub enum ScriptRefusal {
 }
 
 impl fmt::Display for ScriptRefusal {
-    ghost use Rattle.std.specs.Prelude.{Some};
-
     ghost output = { λ refusal. Some (refusal_text refusal) };
 
     fn fmt<W: fmt::Write>(&self, f: &mut fmt::Formatter<W>) -> fmt::Result {

@@ -37,7 +37,8 @@ fn midnight(days: u32) -> [u8; 20]
     let date = date_of(days);
     let year = date.year().unsigned_abs();
     let (month, day) = (date.month().unsigned_abs(), date.day().unsigned_abs());
-    [
+    let mut text = *b"....-..-..T00:00:00Z";
+    text[..10].copy_from_slice(&[
         digit_of(year as u32 / 1000),
         digit_of(year as u32 / 100),
         digit_of(year as u32 / 10),
@@ -48,35 +49,16 @@ fn midnight(days: u32) -> [u8; 20]
         b'-',
         digit_of(day as u32 / 10),
         digit_of(day as u32),
-        b'T',
-        b'0',
-        b'0',
-        b':',
-        b'0',
-        b'0',
-        b':',
-        b'0',
-        b'0',
-        b'Z',
-    ]
+    ]);
+    text
 }
 
 // Returns the text of another second of the same day, from the text of any second of it.
 fn at_second(day: &[u8; 20], second: u32) -> [u8; 20]
     ensures { (d : Day) (other : ℕ) → day.now ≡ day_text d other → result ≡ day_text d second }
 {
-    [
-        day[0],
-        day[1],
-        day[2],
-        day[3],
-        day[4],
-        day[5],
-        day[6],
-        day[7],
-        day[8],
-        day[9],
-        day[10],
+    let mut text = *day;
+    text[11..].copy_from_slice(&[
         digit_of(second / 3600 / 10),
         digit_of(second / 3600),
         b':',
@@ -86,7 +68,8 @@ fn at_second(day: &[u8; 20], second: u32) -> [u8; 20]
         digit_of(second % 60 / 10),
         digit_of(second % 60),
         b'Z',
-    ]
+    ]);
+    text
 }
 
 /// A cache of the last time that was formatted. The next time in a file is often the same, or on the same day.
