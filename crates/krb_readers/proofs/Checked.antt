@@ -1,5 +1,5 @@
 -- What ktcheck shows of a file, as JSON, and of one that gave no keytab.
-use Rattle.krb_readers.proofs.Cited.{◌≡◌, ℕ, List, [], cond, inr, refl, sym, ap, subst, Bool, true, false, IsFalse, Ok, Err, Appends, CheckParts, EndsAfter, ShowsPage, output_error, verdict_status, Appends-nil, AppendsPrefix-none, Watch, OutFault, Ends, check_json_text, Prints, found_verdict, is_silent, object_page, refused_effect, Displays, Page, Result, makes-end, FileName, Ghosts}
+use Rattle.krb_readers.proofs.Cited.{arith, ◌≡◌, ℕ, List, ap, Bool, true, false, IsFalse, Ok, Err, CheckParts, EndsAfter, ShowsPage, output_error, verdict_status, Appends-nil, AppendsPrefix-none, Watch, OutFault, Ends, check_json_text, Prints, found_verdict, is_silent, object_page, refused_effect, Displays, Page, Result, makes-end, FileName, Ghosts}
 use Rattle.krb_files.specs.Loading.{Answer}
 use Rattle.krb_driver.specs.Commands.{Effect, IsMade, MakesFairly, Tries, any, tries}
 use Rattle.krb_driver.specs.declared.error.RunError.{RunError}
@@ -11,8 +11,7 @@ use Rattle.krb_readers.proofs.Listed.{ShowsPage-done, ShowsPage-failed, line-som
 
 -- a file that gave no keytab, or no cache, ends the run
 refused_ends : (json : Bool) (file : FileName) → EndsAfter file (λ why. Ends (refused_effect json file.name.now why))
-refused_ends true file = record { spent = refl; unread = refl }
-refused_ends false file = record { spent = refl; unread = refl }
+refused_ends json file = search arith
 
 -- what is due of what a file gave
 abbrev due : {X : Type 0} → Bool → List ℕ → (X → Page) → Result X RunError → Effect
@@ -23,36 +22,26 @@ due json name page (Err why) = refused_effect json name why
 pub tried : {F X : Type 0} (trait : Ghosts F) (old : F) (file : FileName) (gives : Answer → Result X RunError) (given : Result X RunError) (json : Bool) (page : X → Page) (effect : Effect) (new : F)
     → Tries trait old file gives given new → IsMade (due json file.name.now page given) effect
     → MakesFairly trait old (tries file gives (λ x. Ends (Displays file.name.now (page x))) (λ why. Ends (refused_effect json file.name.now why))) any effect new
-tried trait old file gives (Ok x) json page effect new tries made = record { makes = tries _ _ effect new (refused_ends json file) (makes-end trait new _ effect made); fair = inr tt }
-tried trait old file gives (Err why) json page effect new tries made = record { makes = tries _ _ effect new (refused_ends json file) (makes-end trait new _ effect made); fair = inr tt }
+tried trait old file gives given json page effect new tries made = search (arith, refused_ends, makes-end)
 
 module _ {A : Type 0} (o : CheckOptions A) (explained : FindingSet) (file : List ℕ) (c : CheckParts) where
   -- the object of a file
   abbrev pub object : List ℕ
   object = check_json_text file c (verdict_status (found_verdict o explained c))
 
-  printed : (b : Bool) → is_silent o c ≡ b → cond (is_silent o c) [] object ≡ cond b [] object
-  printed b is = ap (λ (t : Bool). cond t [] object) is
-
   -- memory ran out before anything was printed
   pub object-unshown : (out : Watch) → IsFalse out.failed → ShowsPage out out (Err NoMemory) (object_page o explained file c)
-  object-unshown out well = inr (refl, record { ending_is = refl; well = well; prefix = AppendsPrefix-none out.contents (cond (is_silent o c) [] object) })
+  object-unshown out well = search (arith, AppendsPrefix-none)
 
   -- nothing is printed
   pub object-silent : (out : Watch) (verdict : Verdict) → IsFalse out.failed → verdict ≡ found_verdict o explained c → is_silent o c ≡ true → ShowsPage out out (Ok verdict) (object_page o explained file c)
-  object-silent out verdict well is silent =
-      ShowsPage-done (object_page o explained file c) out out (Ok verdict) well well
-      (subst (λ (text : List ℕ). Appends out.contents out.contents text) (sym (printed true silent)) (Appends-nil out.contents)) (ap Ok is)
+  object-silent out verdict well is silent = search (arith, ShowsPage-done, Appends-nil)
 
   -- the object was printed
   pub object-shown : (out out' : Watch) (verdict : Verdict) → IsFalse out.failed → verdict ≡ found_verdict o explained c → is_silent o c ≡ false
       → Prints {T = Unit {0}} out out' (Ok tt) object → ShowsPage out out' (Ok verdict) (object_page o explained file c)
-  object-shown out out' verdict well is prints p =
-      ShowsPage-done (object_page o explained file c) out out' (Ok verdict) well p.failed
-      (subst (λ (text : List ℕ). Appends out.contents out'.contents text) (sym (printed false prints)) p.ok) (ap Ok is)
+  object-shown out out' verdict well is prints p = ShowsPage-done (object_page o explained file c) out out' (Ok verdict) well p.failed (rw prints p.ok) (ap Ok is)
 
   -- the output failed, or memory ran out, before its end
   pub object-failed : (out out' : Watch) (fault : OutFault) → is_silent o c ≡ false → Prints {T = Unit {0}} out out' (Err fault) object → ShowsPage out out' (Err (output_error fault)) (object_page o explained file c)
-  object-failed out out' fault prints p =
-      subst (λ (text : List ℕ). ShowsPage out out' (Err (output_error fault)) (record { out = text; ending = Ok (found_verdict o explained c); takes = true })) (sym (printed false prints))
-      (ShowsPage-failed (Unit {0}) (record { out = object; ending = Ok (found_verdict o explained c); takes = true }) out out' fault refl (line-some _) p.prefix p.failed)
+  object-failed out out' fault prints p = search (arith, ShowsPage-failed, line-some)

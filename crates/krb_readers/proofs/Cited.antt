@@ -1,5 +1,5 @@
 -- The names that the proofs cite most, passed on from one place. Declares nothing.
-pub use Rattle.std.proofs.Common.{◌≡◌, ℕ, ◌+◌, ◌<◌, List, length, get_or, arith, [], cond, inr, refl, sym, ap, subst, ◌∙◌, inl, take, drop, map, ◌∷◌, ◌++◌}
+pub use Rattle.std.proofs.Common.{◌≡◌, ℕ, ◌+◌, ◌<◌, List, length, get_or, arith, [], inr, refl, sym, ap, subst, ◌∙◌, inl, take, drop, map, ◌∷◌, ◌++◌}
 pub use Rattle.std.specs.Prelude.{Bool, true, false, IsFalse, Ok, Err, fold, Result, codes, ◌⊎◌, IsTrue}
 pub use Rattle.std.specs.List.{flat_map}
 pub use Rattle.std.specs.Io.KnownBytes.{Appends}

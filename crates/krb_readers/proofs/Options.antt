@@ -9,4 +9,4 @@ none_of_two a b ea eb = grind (arith, ea, eb)
 
 -- that of the last of four, if the others are none
 pub of_fourth : {X : Type 0} (a b c d : Option X) → a ≡ None → b ≡ None → c ≡ None → option_or a (option_or b (option_or c d)) ≡ d
-of_fourth a b c d ea eb ec = grind (arith, ea, eb, ec)
+of_fourth a b c d ea eb ec = search arith

@@ -6,8 +6,8 @@ pub(crate) mod words;
 
 ghost use Rattle.std.specs.Prelude.{◌≡◌, IsFalse};
 ghost use Rattle.krb_text.specs.Gathered.{Prints};
-ghost use Rattle.krb_driver.specs.Commands.{made_effect, Displays, IsMade};
-ghost use Rattle.krb_readers.specs.Klist.{ListsAll, gap, listed_text, listed_verdict, listing_page, page_of};
+ghost use Rattle.krb_driver.specs.Commands.{always, made_effect, Displays, IsMade};
+ghost use Rattle.krb_readers.specs.Klist.{ListsAll, gap, klist_plan, listed_text, listed_verdict, listing_page, page_of, printed_after};
 
 use crate::klist::words::{KlistOptions, ListKind};
 use krb_cache_text::{CcColumns, list_cache};
@@ -132,9 +132,6 @@ fn shown<'a, A: Allocator>(
 }
 
 impl<A: Allocator + Copy> OverFiles<A> for ListFiles<'_> {
-    ghost use Rattle.krb_driver.specs.Commands.{always};
-    ghost use Rattle.krb_readers.specs.Klist.{klist_plan, printed_after};
-
     /// Another listing was printed before.
     type State = bool;
 

@@ -5,7 +5,7 @@ pub(crate) mod words;
 
 ghost use Rattle.std.specs.Prelude.{◌≡◌};
 ghost use Rattle.krb_driver.specs.Commands.{Displays, IsMade, made_effect};
-ghost use Rattle.krb_readers.specs.Ktcheck.{ChecksAll, aged_by, check_page, explained_by, file_page, found, page_of};
+ghost use Rattle.krb_readers.specs.Ktcheck.{ChecksAll, aged_by, check_page, explained_after, explained_by, file_page, found, page_of, plan_of};
 
 use crate::file_page::{FilePage, refused};
 use crate::ktcheck::page::{CheckObject, check_lines};
@@ -56,8 +56,6 @@ fn explained_by(ending: Result<Verdict, RunError>) -> FindingSet
 }
 
 impl<'c, A: Allocator + Copy, B: Allocator> OverFiles<A> for CheckFiles<'c, B> {
-    ghost use Rattle.krb_readers.specs.Ktcheck.{explained_after, plan_of};
-
     /// The findings that were explained before.
     type State = FindingSet;
 

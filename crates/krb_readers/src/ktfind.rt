@@ -107,8 +107,6 @@ fn find<'a, A: Allocator, B: Allocator>(
 }
 
 impl<'f, A: Allocator + Copy, B: Allocator> Command<A> for FindEntry<'f, B> {
-    ghost use Rattle.krb_readers.specs.Ktfind.{ktfind_plan};
-
     type Shown = Output<A>;
 
     ghost file = { λ c. c.file.name.now };

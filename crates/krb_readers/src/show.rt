@@ -3,10 +3,11 @@
 pub(crate) mod words;
 
 ghost use Rattle.std.specs.Prelude.{◌≡◌, ◌++◌, OnOk};
-ghost use Rattle.krb_driver.specs.Commands.{IsMade, text_effect};
+ghost use Rattle.krb_driver.specs.Commands.{IsMade, always, text_effect};
 ghost use Rattle.krb_driver.specs.Either.{damage_of, state_of};
 ghost use Rattle.krb_driver.specs.RunErrors.{listing_verdict};
-ghost use Rattle.krb_readers.specs.Show.{ShowsAll, block, shows, view_of};
+ghost use Rattle.krb_readers.specs.Klist.{printed_after};
+ghost use Rattle.krb_readers.specs.Show.{ShowsAll, block, show_plan, shows, view_of};
 
 use crate::show::words::ShowOptions;
 use krb_driver::{
@@ -90,10 +91,6 @@ fn shown<'a, A: Allocator + Copy>(
 }
 
 impl<A: Allocator + Copy> OverFiles<A> for ShowFiles {
-    ghost use Rattle.krb_driver.specs.Commands.{always};
-    ghost use Rattle.krb_readers.specs.Klist.{printed_after};
-    ghost use Rattle.krb_readers.specs.Show.{show_plan};
-
     /// Another block was printed before.
     type State = bool;
 

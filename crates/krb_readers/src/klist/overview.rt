@@ -1,9 +1,9 @@
 //! klist -l: a line for each cache.
 
 ghost use Rattle.std.specs.Prelude.{◌≡◌, ◌++◌, OnOk, codes, false};
-ghost use Rattle.krb_driver.specs.Commands.{IsMade, text_effect};
+ghost use Rattle.krb_driver.specs.Commands.{IsMade, always, text_effect};
 ghost use Rattle.krb_driver.specs.Mistakes.{Refuses, Spells};
-ghost use Rattle.krb_readers.specs.Overview.{SurveysAll, heading, odd_with_list, overview_mistake, overview_text, padded, summary_of, surveys};
+ghost use Rattle.krb_readers.specs.Overview.{SurveysAll, heading, odd_with_list, overview_mistake, overview_plan, overview_text, padded, summary_of, surveys};
 ghost use Rattle.krb_wire.specs.Names.{name_text};
 
 use crate::klist::ticket_check::{SeenTickets, has_ticket};
@@ -132,9 +132,6 @@ fn survey<'a, A: Allocator + Copy>(
 }
 
 impl<A: Allocator + Copy> OverFiles<A> for SurveyFiles {
-    ghost use Rattle.krb_driver.specs.Commands.{always};
-    ghost use Rattle.krb_readers.specs.Overview.{overview_plan};
-
     type State = ();
 
     type Shown = Output<A>;

@@ -148,9 +148,7 @@ impl SeenTickets {
             self.tgt_end = later(self.tgt_end, end);
         }
     }
-}
 
-impl SeenTickets {
     /// Returns what is seen of the tickets of a cache. Takes one pass.
     pub fn of<A: Allocator>(cache: &Ccache<A>) -> SeenTickets
         ensures { SeesSoFar cache.now.state.principal.realm [] (placed_credentials cache.now.state) result }

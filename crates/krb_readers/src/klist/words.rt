@@ -1,7 +1,7 @@
 //! The words of klist, and its options.
 
 ghost use Rattle.std.specs.Prelude.{◌≡◌};
-ghost use Rattle.krb_readers.specs.Klist.{apart, list_kind, list_mistake, list_options, odd_columns, odd_option, odd_seconds, odd_with_cache};
+ghost use Rattle.krb_readers.specs.Klist.{apart, file_kind, list_kind, list_mistake, list_options, odd_columns, odd_option, odd_seconds, odd_with_cache};
 ghost use Rattle.krb_driver.specs.Mistakes.{Refuses, Spells};
 
 use krb_cache_text::CcColumns;
@@ -71,8 +71,6 @@ pub enum ListKind {
 }
 
 impl ListKind {
-    ghost use Rattle.krb_readers.specs.Klist.{file_kind};
-
     /// Returns the kind of file.
     pub fn file_kind(self) -> FileKind
         ensures { result ≡ file_kind self }

@@ -3,7 +3,7 @@
 ghost use Rattle.std.specs.Prelude.{◌≡◌, IfOk};
 ghost use Rattle.krb_driver.specs.Commands.{Displays, IsMade, made_effect};
 ghost use Rattle.krb_readers.specs.Ktcheck.{file_page};
-ghost use Rattle.krb_readers.specs.Ktmatch.{match_page, page_due, page_of};
+ghost use Rattle.krb_readers.specs.Ktmatch.{match_page, page_due, page_of, plan_of, state_after};
 
 use crate::file_page::{FilePage, refused};
 use crate::ktmatch::page::MatchObject;
@@ -79,8 +79,6 @@ fn shown<'a, 'f, A: Allocator + Copy, B: Allocator>(
 }
 
 impl<'c, A: Allocator + Copy, B: Allocator> OverFiles<A> for MatchFiles<'c, A, B> {
-    ghost use Rattle.krb_readers.specs.Ktmatch.{plan_of, state_after};
-
     type State = MatchState;
 
     type Shown = FilePage<A, MatchObject<'c, A>>;
