@@ -1,5 +1,5 @@
 -- The words of an addition, read from left to right.
-use Rattle.krb_keytab_text.proofs.Cited.{◌≡◌, ℕ, List, true, false, Option, Some, None, Result, Ok, Err, refl, ap, subst, is_some, ok_or, EntryParts, LineFault, Reads, ◌>>=◌, Addition, digits_of, entry_of, Parts, BadKey, LineRefusal, Fault, NoMemory, key_in, number_word, etype_word, name_word}
+use Rattle.krb_keytab_text.proofs.Cited.{arith, ◌≡◌, ℕ, List, true, Option, Result, Ok, Err, subst, is_some, ok_or, EntryParts, LineFault, Reads, ◌>>=◌, Addition, digits_of, entry_of, Parts, BadKey, LineRefusal, key_in, number_word, etype_word, name_word}
 
 -- the entry made of what the words are read as
 abbrev entry_by : Result ℕ LineFault → Result ℕ LineFault → Result ℕ LineFault → List ℕ → Result Parts LineFault → Result EntryParts LineFault
@@ -14,11 +14,7 @@ entry_by kvno etype time digits name = do
 -- if the key is valid and the name is refused, the entry is refused for the same reason
 after_key : (v t s : ℕ) (key : Option (List ℕ)) (name : Result Parts LineFault) (e : LineRefusal) → true ≡ is_some key → Reads {T = Parts} (λ p. p) name (Err e)
     → Reads {T = EntryParts} (λ x. x) (ok_or key BadKey >>= λ k. name >>= λ p. Ok (record { principal = p; timestamp = s; version = v; enctype = t; key = k })) (Err e)
-after_key v t s None name e some h = let no : true ≡ false = some in cc
-after_key v t s (Some k) (Ok p) (Fault fault) some h = cc h
-after_key v t s (Some k) (Err fault) (Fault other) some h = let same : fault ≡ other = cc in ap Err same
-after_key v t s (Some k) (Ok p) NoMemory some h = refl
-after_key v t s (Some k) (Err fault) NoMemory some h = h
+after_key v t s key name e some h = search arith
 
 -- if all words but the name are valid and the name is refused, the entry is refused for the same reason
 pub name_refused : (a : Addition) (digits : List ℕ) (v t s : ℕ) (e : LineRefusal) → Ok v ≡ number_word a.kvno → Ok t ≡ etype_word a.etype → Ok s ≡ number_word a.time → digits ≡ digits_of a.key → true ≡ is_some (key_in t digits)

@@ -1,5 +1,5 @@
 -- The lines of entries that have places.
-use Rattle.krb_keytab_text.proofs.Cited.{◌≡◌, ℕ, List, [], ◌∷◌, ◌++◌, Option, Some, None, refl, ap, option_map, flat_map, filter_map, cons_option, EntryParts, entry_at, entry_line, entry_lines}
+use Rattle.krb_keytab_text.proofs.Cited.{arith, ◌≡◌, ℕ, List, [], ◌∷◌, refl, option_map, flat_map, filter_map, EntryParts, entry_at, entry_line, entry_lines}
 use Rattle.krb_wire.specs.declared.format.KtFormat.{KtFormat}
 use Rattle.krb_walk.specs.Store.{Record, records}
 use Rattle.krb_keytab.specs.Store.{KeytabState, store_of}
@@ -11,14 +11,9 @@ abbrev pub lines_of : KtColumns → List PlacedEntry → List ℕ
 lines_of columns xs = flat_map (λ x. entry_line columns x.1) xs
 
 -- the places are not part of the lines
-lines_first : (columns : KtColumns) (place : ℕ) (o : Option EntryParts) (es : List EntryParts) (xs : List PlacedEntry) → lines_of columns xs ≡ flat_map (entry_line columns) es
-    → lines_of columns (cons_option (option_map (λ (e : EntryParts). (place, e)) o) xs) ≡ flat_map (entry_line columns) (cons_option o es)
-lines_first columns place None es xs others = others
-lines_first columns place (Some e) es xs others = ap (λ (t : List ℕ). entry_line columns e ++ t) others
-
 lines_placed : (columns : KtColumns) (f : KtFormat) (rs : List Record) → lines_of columns (filter_map (λ (r : Record). option_map (λ (e : EntryParts). (r.place, e)) (entry_at f r.bytes)) rs) ≡ flat_map (entry_line columns) (filter_map (λ (r : Record). entry_at f r.bytes) rs)
 lines_placed columns f [] = refl
-lines_placed columns f (r ∷ rs) = lines_first columns r.place (entry_at f r.bytes) _ _ (lines_placed columns f rs)
+lines_placed columns f (r ∷ rs) = grind (arith, lines_placed columns f rs)
 
 -- the lines of all entries
 pub all_lines : (columns : KtColumns) (k : KeytabState) → lines_of columns (placed_entries k) ≡ entry_lines columns k

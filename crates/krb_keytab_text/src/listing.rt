@@ -125,17 +125,6 @@ fn append_slots<A: Allocator, B: Allocator>(
     Ok(())
 }
 
-fn append_listing<A: Allocator, B: Allocator>(
-    entries: &[NewEntry<B>],
-    columns: KtColumns,
-    out: &mut Vec<u8, A>,
-) -> Result<(), NoMemory>
-    ensures { OnOk result (out.new.items ≡ out.old.items ++ slot_text columns entries.now) }
-{
-    append_slot_heading(columns.times, out)?;
-    append_slots(columns, entries, out)
-}
-
 /// Appends the listing of a list of entries: a heading, and for each entry a line with its slot number, from 1 on.
 pub fn list_slots<A: Allocator>(
     alloc: A,
@@ -148,6 +137,7 @@ pub fn list_slots<A: Allocator>(
     ensures capacity { vec_capacity out.old ≤ vec_capacity out.new }
 {
     let mut text = Vec::new(alloc);
-    append_listing(entries, columns, &mut text)?;
+    append_slot_heading(columns.times, &mut text)?;
+    append_slots(columns, entries, &mut text)?;
     append(&text, out)
 }

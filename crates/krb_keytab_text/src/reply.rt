@@ -74,6 +74,7 @@ fn append_place<A: Allocator>(
 }
 
 // Appends the line that reports the fault that a walk met.
+#[tactic(auto, using(crate::proofs::Appending::part_then, crate::proofs::Appending::part_fails, krb_wire::proofs::TextLemmas::appended_part))]
 fn append_walk_fault<A: Allocator>(
     walk: u32,
     fault: Fault,
@@ -87,6 +88,7 @@ fn append_walk_fault<A: Allocator>(
 }
 
 // Appends the line that reports the record given to a walk.
+#[tactic(auto, using(crate::proofs::Appending::part_then, crate::proofs::Appending::part_fails))]
 fn append_gave<F: RecordFormat, A: Allocator>(
     format: F,
     walk: u32,

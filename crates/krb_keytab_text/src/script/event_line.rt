@@ -2,7 +2,7 @@
 
 ghost use Rattle.std.specs.Prelude.{◌≡◌};
 ghost use Rattle.krb_text.specs.LineFault.{Reads};
-ghost use Rattle.krb_keytab_text.specs.Script.{made, entry_in, event_in, addition_of, digits_of, entry_of};
+ghost use Rattle.krb_keytab_text.specs.Script.{entry_in, event_in, addition_of, digits_of, entry_of};
 
 use crate::script::ScriptLine;
 use crate::script::command::common_event;
@@ -96,16 +96,6 @@ pub fn parse_addition<A: Allocator + Copy>(
     entry_of(alloc, addition_of(words).ok_or(LineFault::WordCount)?)
 }
 
-// Parses the words after `add` as a `Put`.
-fn parse_put<A: Allocator + Copy>(
-    alloc: A,
-    words: Words<'_>,
-) -> Result<Event<NewEntry<A>>, LineRefusal>
-    ensures { Reads (λ e. e) (made Event.Put (entry_in words.entry)) result }
-{
-    Ok(Event::Put(parse_addition(alloc, words)?))
-}
-
 // Parses a line as an event.
 fn parse_event<A: Allocator + Copy>(
     alloc: A,
@@ -116,7 +106,7 @@ fn parse_event<A: Allocator + Copy>(
     let mut words = Words::of(line);
     let word = words.next().ok_or(LineFault::UnknownWord)?;
     if word == b"add".as_slice() {
-        return parse_put(alloc, words);
+        return Ok(Event::Put(parse_addition(alloc, words)?));
     }
     Ok(common_event(word, words)?)
 }
