@@ -1,21 +1,12 @@
 -- One more ticket that is looked at.
-use Rattle.krb_match.proofs.Cited.{◌≡◌, ◌∙◌, sym, ap, arith, ℕ, Bool, cond, List, [], ◌∷◌, ◌++◌, map, append_assoc, append-nil, Option, None, option_or, PlacedEntry}
+use Rattle.krb_match.proofs.Cited.{◌≡◌, ◌∙◌, sym, arith, ℕ, Bool, cond, List, [], ◌∷◌, ◌++◌, map, append_assoc, append-nil, Option, None, option_or, PlacedEntry}
 use Rattle.krb_ccache.specs.Store.{PlacedCredential}
 use Rattle.krb_match.specs.Looking.{AreMatched}
 use Rattle.krb_match.specs.Match.{name_of}
 use Rattle.krb_match.specs.Tickets.{MatchedParts, first_near, matched, near_by, said}
 
-either : (wanted : Bool) (near one others : Option ℕ) → option_or (option_or near (cond wanted one None)) (cond wanted others None) ≡ option_or near (cond wanted (option_or one others) None)
-either wanted near one others = grind arith
-
 pub added : (wanted : Bool) (xs : List PlacedEntry) (x : PlacedCredential) (rest all : List PlacedCredential) (old new : List MatchedParts) (near next : Option ℕ) → AreMatched wanted xs (x ∷ rest) all old near → new ≡ old ++ matched xs x ∷ [] → next ≡ option_or near (cond wanted (near_by xs (name_of x.1) (said xs x.1)) None) → AreMatched wanted xs rest all new next
-added wanted xs x rest all old new near next h tickets_are next_is = record {
-  tickets_are = ap (λ (ts : List MatchedParts). ts ++ map (matched xs) rest) tickets_are ∙ append_assoc old (matched xs x ∷ []) (map (matched xs) rest) ∙ h.tickets_are;
-  near_is = ap (λ (n : Option ℕ). option_or n (cond wanted (first_near xs rest) None)) next_is ∙ either wanted near (near_by xs (name_of x.1) (said xs x.1)) (first_near xs rest) ∙ h.near_is;
-}
-
-none_left : (wanted : Bool) (near : Option ℕ) → near ≡ option_or near (cond wanted None None)
-none_left wanted near = grind arith
+added wanted xs x rest all old new near next h tickets_are next_is = search (arith, append_assoc)
 
 pub all_added : (wanted : Bool) (xs : List PlacedEntry) (all : List PlacedCredential) (tickets : List MatchedParts) (near : Option ℕ) → AreMatched wanted xs [] all tickets near → (tickets ≡ map (matched xs) all) × (near ≡ cond wanted (first_near xs all) None)
-all_added wanted xs all tickets near h = (sym (append-nil tickets) ∙ h.tickets_are, none_left wanted near ∙ h.near_is)
+all_added wanted xs all tickets near h = (sym (append-nil tickets) ∙ h.tickets_are, (grind arith) ∙ h.near_is)

@@ -1,29 +1,28 @@
 -- The names that the proofs cite most, passed on from one place. Declares nothing.
-pub use Rattle.std.proofs.Common.{◌≡◌, ◌∙◌, sym, ap, ap₂, subst, refl, arith, rules, ℕ, zero, suc, ◌+◌, ◌-◌, ◌<◌, ◌≤◌, ◌%◌, Bool, true, false, cond, List, [], ◌∷◌, ◌++◌, length, take, drop, map, get_or, Option, Some, None, append_assoc, append-nil, ◌==◌}
-pub use Rattle.std.proofs.Math.Bool.{or-false}
-pub use Rattle.std.proofs.lemmas.Bool.{eq-eqb, eqb-true, ne_eqb}
-pub use Rattle.std.proofs.lemmas.List.{length_push, take_all, take_at, take_more}
+pub use Rattle.std.proofs.Common.{◌≡◌, ◌∙◌, sym, ap, ap₂, subst, refl, arith, ℕ, zero, suc, ◌+◌, ◌-◌, ◌<◌, ◌≤◌, Bool, true, false, cond, List, [], ◌∷◌, ◌++◌, length, take, drop, map, get_or, Option, Some, None, append_assoc, append-nil, ◌==◌}
+pub use Rattle.std.proofs.lemmas.Bool.{eqb-true, ne_eqb}
+pub use Rattle.std.proofs.lemmas.List.{length_push, take_all}
 pub use Rattle.std.proofs.lemmas.List.Elements.{filter-append}
-pub use Rattle.std.proofs.lemmas.List.Folds.{find-append, list_any-append}
+pub use Rattle.std.proofs.lemmas.List.Folds.{find-append}
 pub use Rattle.std.proofs.lemmas.Grind.{fold-append}
 pub use Rattle.std.specs.List.{fold, list_any, AllByRecursion, position_from}
 pub use Rattle.std.specs.Option.{option_or, option_map_or}
-pub use Rattle.std.specs.Prelude.{◌||◌, ◌&&◌, not, filter, find, option_map, is_some, unwrap_or, nat_lt}
+pub use Rattle.std.specs.Prelude.{◌||◌, ◌&&◌, not, filter, find, option_map, is_some, unwrap_or}
 pub use Rattle.std.specs.Str.{bytes_eq}
 pub use Rattle.std.specs.Vec.{vec_items}
-pub use Rattle.std.specs.BTreeMap.{BTreeMap, get, get_by, Updates}
+pub use Rattle.std.specs.BTreeMap.{BTreeMap, get, Updates}
 pub use Rattle.krb_wire.specs.Spelling.{Parts}
 pub use Rattle.krb_wire.specs.Names.{have_same_name}
 pub use Rattle.krb_keytab.specs.Entry.{EntryParts}
 pub use Rattle.krb_keytab.specs.Find.{PlacedEntry, placed_entries}
 pub use Rattle.krb_names.proofs.SameNames.{same_equiv}
 pub use Rattle.krb_audit.specs.Newest.{is_newer, newest_from}
-pub use Rattle.krb_audit.specs.Rows.{stamp_of, stamped}
-pub use Rattle.krb_names.specs.Set.{HaveSameNames, IsAlone, is_among, is_place}
+pub use Rattle.krb_audit.specs.Rows.{stamp_of}
+pub use Rattle.krb_names.specs.Set.{HaveSameNames, is_among}
 pub use Rattle.krb_audit.specs.declared.newest.Stamp.{Stamp}
 pub use Rattle.krb_match.specs.Names.{bare_key, entry_key, folded_key, name_key}
-pub use Rattle.krb_match.specs.Match.{asked_version, entry_etype, etypes_of, fits, fitting, has_name, is_new, judged, judged_among, named, newest_version, no_opener, opener, opener_among, opens_or, ticket_of, wanted}
-pub use Rattle.krb_match.specs.Table.{AreClasses, AreKeys, AreNoted, ArePlaced, AreUnited, ClassKey, GroupKey, GroupParts, IsAdded, IsNoted, Rises, earlier, first_of, firsts_of, fitting_of, group_cmp, group_in, grown, is_any, is_first_in, is_of, HasNumber, IsNumbered, class_cmp, newer, same_class, same_key, seen_group, versions, with_entry}
+pub use Rattle.krb_match.specs.Match.{asked_version, entry_etype, etypes_of, fits, has_name, is_new, judged, judged_among, named, newest_version, no_opener, opener, opener_among, ticket_of, wanted}
+pub use Rattle.krb_match.specs.Table.{AreKeys, AreNoted, ArePlaced, AreUnited, ClassKey, GroupKey, GroupParts, IsAdded, IsNoted, Rises, earlier, first_of, firsts_of, fitting_of, group_cmp, group_in, grown, is_any, is_first_in, is_of, HasNumber, IsNumbered, class_cmp, newer, same_class, same_key, seen_group, versions, with_entry}
 pub use Rattle.krb_match.specs.declared.group.Group.{Group}
 pub use Rattle.krb_match.specs.declared.fitting.Fitting.{Fitting}
 pub use Rattle.krb_match.specs.declared.keys.Keys.{Keys}

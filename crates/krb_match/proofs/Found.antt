@@ -2,13 +2,9 @@
 use Rattle.krb_match.proofs.Cited.{◌≡◌, ap, refl, arith, ℕ, Bool, true, cond, List, [], ◌∷◌, ◌++◌, ◌==◌, Option, Some, None, option_map, option_or, option_map_or, find, list_any, is_some, fold, find-append, append-nil, eqb-true, EntryParts, PlacedEntry, Stamp, is_newer, newer, newest_from, newest_version, stamp_of, GroupParts, first_of, firsts_of, with_entry, zero, suc, is_new}
 use Rattle.krb_match.specs.Match.{etypes_from}
 
--- the newer of two stamps is that of the newer entry
-newer_is : (s : Stamp) (e y : EntryParts) → s ≡ stamp_of e → newer s (stamp_of y) ≡ stamp_of (cond (is_newer e y) y e)
-newer_is s e y is = grind (arith, is)
-
 group_newest_from : (g : GroupParts) (e : EntryParts) (ys : List PlacedEntry) → g.0 ≡ stamp_of e → option_map_or (λ g. g.0.kvno) (fold with_entry (Some g) ys) 0 ≡ option_map_or (λ e. e.version) (newest_from (Some e) ys) 0
 group_newest_from g e [] is = ap (λ (s : Stamp). s.kvno) is
-group_newest_from g e (y ∷ ys) is = group_newest_from (newer g.0 (stamp_of y.1), firsts_of (with_entry (Some g) y)) (cond (is_newer e y.1) y.1 e) ys (newer_is g.0 e y.1 is)
+group_newest_from g e (y ∷ ys) is = group_newest_from (newer g.0 (stamp_of y.1), firsts_of (with_entry (Some g) y)) (cond (is_newer e y.1) y.1 e) ys (grind (arith, is))
 
 pub group_newest : (ys : List PlacedEntry) → option_map_or (λ g. g.0.kvno) (fold with_entry None ys) 0 ≡ newest_version ys
 group_newest [] = refl
@@ -18,15 +14,11 @@ any_found : (t : ℕ → Bool) (n : ℕ) (fs : List (ℕ × ℕ)) → list_any (
 any_found t n [] any e = absurd cc
 any_found t n (f ∷ fs) any e = grind (arith, any, e, any_found t n fs, eqb-true f.1 n)
 
-or_found : (o p : Option (ℕ × ℕ)) → is_some o ≡ true → option_or o p ≡ o
-or_found None p e = absurd cc
-or_found (Some x) p e = refl
-
 first_from_group : (t : ℕ → Bool) (g : Option GroupParts) (ys : List PlacedEntry) → find (λ f. t f.1) (firsts_of (fold with_entry g ys)) ≡ option_or (find (λ f. t f.1) (firsts_of g)) (option_map first_of (find (λ y. t y.1.enctype) ys))
 first_from_group t g [] = grind arith
 first_from_group t g (y ∷ ys) =
     let fs = firsts_of g in
-    grind (arith, first_from_group t (with_entry g y) ys, append-nil fs, any_found t y.1.enctype fs, or_found (find (λ f. t f.1) fs), find-append (λ f. t f.1) fs (first_of y ∷ []))
+    grind (arith, first_from_group t (with_entry g y) ys, append-nil fs, any_found t y.1.enctype fs, find-append (λ f. t f.1) fs (first_of y ∷ []))
 
 -- the first entry of each kind of enctype is among the first ones of each enctype
 pub group_first : (t : ℕ → Bool) (ys : List PlacedEntry) → find (λ f. t f.1) (firsts_of (fold with_entry None ys)) ≡ option_map first_of (find (λ y. t y.1.enctype) ys)
@@ -40,8 +32,7 @@ one_more_etype m n found seen xs p etype m_is same is = rw (m_is, ← same) (gri
 
 pub no_more_etypes : (n : ℕ) (found seen : List ℕ) (xs : List PlacedEntry) → seen ≡ found → option_map first_of (find (λ x. is_new seen x.1.enctype) xs) ≡ None → etypes_from n found xs ≡ found
 unfolding etypes_from
-no_more_etypes zero found seen xs same is = refl
-no_more_etypes (suc n) found seen xs same is = rw (← same) (grind (arith, is))
+no_more_etypes n found seen xs same is = search arith
 
 pub no_turns : (n : ℕ) (found : List ℕ) (xs : List PlacedEntry) → n ≡ zero → etypes_from n found xs ≡ found
 unfolding etypes_from

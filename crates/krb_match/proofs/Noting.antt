@@ -36,8 +36,7 @@ none_there (f ∷ fs) = grind (arith, nat_tests)
 
 -- entries of a group that have an enctype are those of another
 with_etype : (p : Parts) (v e : Option ℕ) (n : ℕ) (x : PlacedEntry) → is_any e n ≡ true → (is_of p v (Some n) x && true) ≡ (is_of p v e x && x.1.enctype == n)
-with_etype p v None n x e = grind arith
-with_etype p v (Some m) n x e = grind (arith, eqb-true n m e)
+with_etype p v e n x is = search (arith, eqb-true)
 
 -- so there are none iff the group does not have the enctype
 same_etypes : (p : Parts) (v e : Option ℕ) (n : ℕ) (xs : List PlacedEntry) → is_any e n ≡ true → is_first_in None (fold with_entry None (filter (is_of p v (Some n)) xs)) ≡ not (list_any (λ f. f.1 == n) (firsts_of (fold with_entry None (filter (is_of p v e) xs))))
@@ -49,23 +48,18 @@ same_etypes p v e n xs any =
 -- ---- the maps
 
 option_tie : (u v : Option ℕ) → is_eq (option_cmp nat_cmp u v) ≡ option_eq nat_eq u v
-option_tie None None = refl
-option_tie None (Some w) = refl
-option_tie (Some v) None = refl
-option_tie (Some v) (Some w) = grind (arith, nat_tests)
+option_tie u v = search arith
 
 key_tie : (k l : GroupKey) → is_eq (group_cmp k l) ≡ same_key k l
 key_tie k l = grind (arith, nat_tests, option_tie k.1 l.1, option_tie k.2 l.2)
 
 -- a group that was there or was made for an entry has the first ones that were there
 pub firsts_before : {A : Type 0} (was : Option (Group A)) (fresh start : Group A) → start ≡ unwrap_or was fresh → fresh.firsts.items ≡ [] → start.firsts.items ≡ firsts_of (option_map seen_group was)
-firsts_before None fresh start begun firsts = ap (λ (h : Group _). h.firsts.items) begun ∙ firsts
-firsts_before (Some h) fresh start begun firsts = ap (λ (h : Group _). h.firsts.items) begun
+firsts_before was fresh start begun firsts = search arith
 
 -- and one more entry makes it what was there with that entry
 one_more : {A : Type 0} (x : PlacedEntry) (is_new : Bool) (was : Option (Group A)) (fresh start : Group A) → start ≡ unwrap_or was fresh → fresh.newest ≡ stamp_of x.1 → fresh.firsts.items ≡ [] → grown is_new (Some (seen_group start)) x ≡ grown is_new (option_map seen_group was) x
-one_more x is_new None fresh start begun newest firsts = grind (arith, begun, newest, firsts)
-one_more x is_new (Some h) fresh start begun newest firsts = ap (λ (h : Group _). grown is_new (Some (seen_group h)) x) begun
+one_more x is_new was fresh start begun newest firsts = search arith
 
 pub group_added : {A : Type 0} {new after : BTreeMap GroupKey (Group A)} (old : BTreeMap GroupKey (Group A)) (key : GroupKey) (x : PlacedEntry) (is_first : Option Bool) (is_new : Bool) (fresh start g : Group A) → after ≡ new → Updates group_cmp old new key (Some g) → start ≡ unwrap_or (get group_cmp old key) fresh → fresh.newest ≡ stamp_of x.1 → fresh.firsts.items ≡ []
     → Some (seen_group g) ≡ grown is_new (Some (seen_group start)) x → is_new ≡ is_first_in is_first (group_in old key) → IsAdded key is_first x old after

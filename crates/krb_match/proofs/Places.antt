@@ -32,9 +32,7 @@ with_first at n (Some e) xs lt h ys is = subst (Ascend at) (sym (is.1 e refl)) (
 ascend : (f : KtFormat) (at : ℕ) (cs : List Cell) → Ascend at (entries_in f at cs)
 ascend f at [] = record { from = tt; rises = tt }
 ascend f at (Live b ∷ cs) = with_first at (at + (4 + length b)) (entry_at f b) (entries_in f (at + (4 + length b)) cs) (omega arith) (ascend f (at + (4 + length b)) cs) (entries_in f at (Live b ∷ cs)) (λ e. grind (arith, e), λ x e. grind (arith, e))
-ascend f at (Free b ∷ cs) =
-    let h = ascend f (at + (4 + length b)) cs in
-    record { from = from_later at (at + (4 + length b)) (entries_in f (at + (4 + length b)) cs) (omega arith) h.from; rises = h.rises }
+ascend f at (Free b ∷ cs) = search (arith, from_later, ascend f (at + (4 + length b)) cs)
 
 pub places_rise : (k : KeytabState) → Rises (placed_entries k)
 places_rise k = subst Rises (entries_of_cells k (cells_of k) refl) (ascend k.format 2 k.contents.cells).rises

@@ -23,5 +23,4 @@ after_earlier t i k (x ∷ xs) from = grind (arith, nat_tests, after_earlier t i
 -- the first that passes either of two tests
 pub first_either : {X Y : Type 0} (f g : X → Y) (t u : Y → Bool) (i : ℕ) (xs : List X) → lesser (position_from t i (map f xs)) (position_from u i (map g xs)) ≡ position_from (λ x. t (f x) || u (g x)) i xs
 first_either f g t u i [] = refl
-first_either f g t u i (x ∷ xs) =
-    grind (arith, nat_tests, before_later u i (i + 1) (map g xs), after_earlier t i (i + 1) (map f xs), first_either f g t u (i + 1) xs)
+first_either f g t u i (x ∷ xs) = search (arith, before_later, after_earlier, first_either f g t u (i + 1) xs)
