@@ -1,6 +1,6 @@
 //! The words of a configuration value in a script.
 
-ghost use Rattle.std.specs.Prelude.{◌≡◌, IfOk, Some, option_copied};
+ghost use Rattle.std.specs.Prelude.{◌≡◌, IfOk, option_copied};
 ghost use Rattle.krb_text.specs.LineFault.{Reads};
 ghost use Rattle.krb_cache_text.specs.Script.{principal_of, setting_of, checked, checked_setting, setting_in};
 
@@ -76,21 +76,16 @@ fn setting_of(mut words: Words<'_>) -> Option<Setting<'_>>
     })
 }
 
-// Refuses a text that is not a name with its realm.
-fn check_name<A: Allocator + Copy>(alloc: A, text: &[u8]) -> Result<(), LineRefusal>
-    ensures { Reads (λ done. done) (checked (Some text.now)) result }
-{
-    let _name = name_word(alloc, text)?;
-    Ok(())
-}
-
 // Refuses a principal that is not a name with its realm.
 fn check<A: Allocator + Copy>(alloc: A, principal: Option<&[u8]>) -> Result<(), LineRefusal>
     ensures { Reads (λ done. done) (checked (option_copied principal.entry)) result }
 {
     match principal {
         None => Ok(()),
-        Some(text) => check_name(alloc, text),
+        Some(text) => {
+            let _name = name_word(alloc, text)?;
+            Ok(())
+        }
     }
 }
 
