@@ -3,16 +3,11 @@ use Rattle.std.specs.Prelude.{slice_get}
 use Rattle.krb_wire.specs.Names.{name_text}
 use Rattle.krb_keytab.specs.Store.{KeytabState}
 use Rattle.krb_match.specs.Names.{entry_text}
-use Rattle.krb_match.proofs.Cited.{◌≡◌, ◌∙◌, sym, ap, refl, ℕ, List, [], length, drop, map, Option, Some, None, option_map, option_map_or, vec_items, entry_key, PlacedEntry, placed_entries}
+use Rattle.krb_match.proofs.Cited.{◌≡◌, arith, ◌∙◌, ap, refl, ℕ, List, [], length, drop, map, Option, Some, None, option_map, option_map_or, vec_items, entry_key, PlacedEntry, placed_entries}
 use Rattle.krb_match.proofs.classes.Classes.entry_text.Goals as goal
 
-of_key : (x : Option PlacedEntry) → option_map_or (drop 1) (option_map entry_key x) [] ≡ option_map_or (λ x. name_text x.1.principal) x []
-of_key None = refl
-of_key (Some x) = refl
-
 text_is : {V : Type 0} (f : V → List ℕ) (names : List V) (xs : List PlacedEntry) (n : ℕ) (name : Option V) → map f names ≡ map entry_key xs → slice_get names n ≡ name → option_map_or (drop 1) (option_map f name) [] ≡ option_map_or (λ x. name_text x.1.principal) (slice_get xs n) []
-text_is f names xs n name keys at =
-    ap (λ k. option_map_or (drop 1) k []) (ap (option_map f) (sym at) ∙ sym (slice_get-map f names n) ∙ ap (λ ks. slice_get ks n) keys ∙ slice_get-map entry_key xs n) ∙ of_key (slice_get xs n)
+text_is f names xs n name keys at = grind (arith, slice_get-map f names n, slice_get-map entry_key xs n, keys, at)
 
 pub returns-in-Some : goal.returns-in-Some
 returns-in-Some g c =
