@@ -1,6 +1,6 @@
 -- The names that the proofs cite most, passed on from one place. Declares nothing.
 unfoldable pub use Rattle.krb_text.specs.Calendar.{day_number}
-pub use Rattle.std.proofs.Common.{◌≡◌, ℕ, ap, List, ◌∙◌, refl, ◌++◌, sym, true, arith, ◌+◌, [], Err, ◌∷◌, Result, length, Ok, drop, false, Some, None, Option, Bool, ◌<◌, ◌≤◌, append_assoc, map, suc, subst, add-one, rules, cond, ◌/◌, length-append, nat_lt, take, get_or, ◌%◌, drop-cons, ◌-◌, pos, IsSome, ◌⊎◌, zero, ◌≤ℤ◌, Bor, replicate, IfSome, ◌==◌, inr, take-append-drop, neg_ℤ, inl, append-nil, ◌+ℤ◌, w64}
+pub use Rattle.std.proofs.Common.{◌≡◌, ℕ, ap, List, ◌∙◌, refl, ◌++◌, sym, true, arith, ◌+◌, [], Err, ◌∷◌, Result, length, Ok, drop, false, Some, None, Option, Bool, ◌<◌, ◌≤◌, append_assoc, map, suc, subst, add-one, rules, cond, ◌/◌, length-append, nat_lt, take, get_or, ◌%◌, drop-cons, ◌-◌, pos, IsSome, ◌⊎◌, zero, ◌≤ℤ◌, Bor, replicate, IfSome, ◌==◌, inr, take-append-drop, neg_ℤ, inl, append-nil, ◌+ℤ◌}
 pub use Rattle.std.proofs.lemmas.Bool.{ltb-true, ltb-false, not_from_false, ne_eqb, and_parts, eqb-true}
 pub use Rattle.std.proofs.lemmas.Result.{err_from_is_err_and, on_ok_weaker, on_err_weaker}
 pub use Rattle.std.specs.List.{filter_map, AllByRecursion, list_all, list_any, slice_split, find, position_from}
@@ -9,7 +9,7 @@ pub use Rattle.std.specs.Prelude.{IsFalse, IsOk, if◌then◌else◌, ok_or, is_
 pub use Rattle.std.specs.Result.{result_ok, MatchResult}
 pub use Rattle.krb_text.specs.Flags.{letters_among, flag_letters_of, is_set}
 pub use Rattle.krb_text.specs.Word.{pieces, joined, pieces_left, name_word}
-pub use Rattle.hex.specs.Hex.{decode_of, lower_digits, is_hex_digit}
+pub use Rattle.hex.specs.Hex.{decode_of, is_hex_digit}
 pub use Rattle.krb_wire.proofs.TextLemmas.{appended_part, left_fails, Left}
 pub use Rattle.krb_wire.specs.Text.{Appended}
 pub use Rattle.std.proofs.lemmas.Fmt.{length-decimal-le, IsAscii-from_digits}

@@ -1,27 +1,20 @@
 -- `NoMemory` is never the fault of a text.
-use Rattle.krb_text.proofs.Cited.{◌≡◌, ◌⊎◌, inl, inr, List, [], ◌∷◌, ◌++◌, Option, Some, None, Result, Ok, Err, ℕ, refl, IsOk, ok_or, unwrap_or, result_ok, filter_map, Parts, BadName, name_word}
+use Rattle.krb_text.proofs.Cited.{arith, ◌≡◌, ◌⊎◌, inl, inr, List, [], ◌∷◌, ◌++◌, Option, Some, None, Result, Ok, Err, ℕ, refl, IsOk, ok_or, unwrap_or, result_ok, filter_map, Parts, BadName, name_word}
 use Rattle.krb_wire.specs.declared.name_fault.NameFault.{NameFault}
 use Rattle.krb_wire.specs.declared.name_fault.NameFault.TheVariants.{NoMemory}
 use Rattle.krb_wire.specs.declared.atom.Atom.{Atom}
-use Rattle.krb_wire.specs.declared.atom.Atom.TheVariants.{Byte, Slash, At, Lone}
 use Rattle.krb_wire.specs.Atoms.{atoms, before_at, after_at}
 use Rattle.krb_wire.specs.NameOf.{component_fault, realm_fault, faults_of, first_fault, name_or_fault, name_of, realm_of, components_of}
 
 -- it is not the first fault of a realm
 not_in_realm : (realm : List Atom) → first_fault (filter_map realm_fault realm) ≡ Some NoMemory → ⊥
 not_in_realm [] h = cc
-not_in_realm (Byte b ∷ rest) h = not_in_realm rest h
-not_in_realm (Slash ∷ rest) h = cc
-not_in_realm (At ∷ rest) h = cc
-not_in_realm (Lone ∷ rest) h = cc
+not_in_realm (atom ∷ rest) h = grind (arith, h, not_in_realm rest)
 
 -- nor of components before a realm
 not_before : (text : List Atom) (realm : List Atom) → first_fault (filter_map component_fault text ++ filter_map realm_fault realm) ≡ Some NoMemory → ⊥
 not_before [] realm h = not_in_realm realm h
-not_before (Byte b ∷ rest) realm h = not_before rest realm h
-not_before (Slash ∷ rest) realm h = not_before rest realm h
-not_before (At ∷ rest) realm h = not_before rest realm h
-not_before (Lone ∷ rest) realm h = cc
+not_before (atom ∷ rest) realm h = grind (arith, h, not_before rest realm)
 
 -- if it were the fault of a name, it would be the first fault of the text
 not_of_name : (fault : Option NameFault) (realm : Option (List ℕ)) (components : List (List ℕ)) → name_or_fault fault realm components ≡ Err NoMemory → fault ≡ Some NoMemory

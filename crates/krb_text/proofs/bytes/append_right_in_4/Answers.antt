@@ -4,17 +4,10 @@ use Rattle.krb_text.proofs.Aligned.{right_aligned}
 use Rattle.krb_text.proofs.bytes.append_right_in_4.Goals as goal
 
 pub write_digits-start-requires : goal.write_digits-start-requires
-write_digits-start-requires g c =
-    let fits = c.ranges.number in
-    (length-decimal-le 20 c.args.number (omega arith) (omega (arith, fits)) (omega (arith, fits)), omega arith)
+write_digits-start-requires g c = search (arith, length-decimal-le)
 
 pub returns-then-start-lt16 : goal.returns-then-start-lt16
-returns-then-start-lt16 g c =
-    let content_of = c.write_digits-start.ensures in
-    let start = c.write_digits-start.result in
-    let text = right_aligned _ (decimal c.args.number) start start content_of.start content_of.written content_of.before (omega arith) in
-    let P : List ℕ → Type 0 = λ t. Appended t c.args.out.now c.append.new.out c.append.result in
-    subst P text c.append.ensures
+returns-then-start-lt16 g c = search (arith, right_aligned)
 
 pub returns : goal.returns
 returns g c =
