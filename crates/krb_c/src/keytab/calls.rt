@@ -19,6 +19,7 @@ use crate::keytab::changes::{Numbers, add};
 use crate::keytab::looks::{KrbfEntry, copy_name_at, find, look_at, show_component};
 use crate::status::{DONE, kind_of};
 use crate::text::{KrbfBytes, bytes_of};
+use krb_walk::Placed;
 use std::alloc::Global;
 
 /// Shows the first entry at or after the cursor, and moves the cursor past it. A walk starts at 2.
