@@ -22,7 +22,7 @@ pub use Rattle.krb_names.specs.Set.{HaveSameNames, is_among}
 pub use Rattle.krb_audit.specs.declared.newest.Stamp.{Stamp}
 pub use Rattle.krb_match.specs.Names.{bare_key, entry_key, folded_key, name_key}
 pub use Rattle.krb_match.specs.Match.{asked_version, entry_etype, etypes_of, fits, has_name, is_new, judged, judged_among, named, newest_version, no_opener, opener, opener_among, ticket_of, wanted}
-pub use Rattle.krb_match.specs.Table.{AreKeys, AreNoted, ArePlaced, AreUnited, ClassKey, GroupKey, GroupParts, IsAdded, IsNoted, Rises, earlier, first_of, firsts_of, fitting_of, group_cmp, group_in, grown, is_any, is_first_in, is_of, HasNumber, IsNumbered, class_cmp, newer, same_class, same_key, seen_group, versions, with_entry}
+pub use Rattle.krb_match.specs.Table.{AreKeys, AreNoted, ArePlaced, AreUnited, ClassKey, GroupKey, GroupParts, HasNumber, IsAdded, IsNoted, IsNumbered, Rises, earlier, first_of, firsts_of, fitting_of, group_cmp, group_in, grown, is_any, is_first_in, is_in, is_of, newer, placed_in, same_class, same_key, seen_group, versions, with_entry}
 pub use Rattle.krb_match.specs.declared.group.Group.{Group}
 pub use Rattle.krb_match.specs.declared.fitting.Fitting.{Fitting}
 pub use Rattle.krb_match.specs.declared.keys.Keys.{Keys}

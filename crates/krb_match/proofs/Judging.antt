@@ -1,6 +1,11 @@
 -- What is said of a ticket, by the number of its name.
 use Rattle.krb_match.proofs.Cited.{◌≡◌, ◌∙◌, sym, ap, refl, arith, ℕ, Bool, true, false, List, [], ◌∷◌, length, ◌==◌, ◌||◌, ◌&&◌, Option, Some, None, option_map, option_or, option_map_or, filter, find, fold, eqb-true, Parts, have_same_name, PlacedEntry, newest_version, asked_version, entry_etype, etypes_of, fits, judged_among, named, no_opener, opener, wanted, AreKeys, AreUnited, first_of, firsts_of, fitting_of, group_in, HasNumber, is_any, is_of, versions, with_entry, Fitting, Keys}
+use Rattle.std.proofs.lemmas.Slice.Eq.{bytes_eq-Decides}
 use Rattle.krb_ccache.specs.declared.ticket.TicketEncryption.{TicketEncryption}
+use Rattle.krb_copy.proofs.ClassKeys.{names_agree}
+use Rattle.krb_names.specs.Hash.{hash_of}
+use Rattle.krb_match.specs.Table.{is_in}
+use Rattle.krb_match.specs.Names.{entry_key, name_key}
 use Rattle.krb_match.specs.declared.judgement.Judgement.TheVariants.{Kvno, Etype, Opens}
 use Rattle.std.specs.Prelude.{slice_get}
 use Rattle.krb_match.proofs.Noting.{and-true}
@@ -81,3 +86,10 @@ module _ {A : Type 0} (xs : List PlacedEntry) (p : Parts) (i : ℕ) (keys : Keys
       → ns ≡ etypes_of (fitting_of asked None (named p xs)) → judged_among e (named p xs) ≡ no_opener (newest_version (named p xs)) ns
   not_opened e asked etype ns o asked_is etype_is o_is none ns_is =
       grind (arith, some_named same xs (sym (h.names p) ∙ sym number.found), asked_is, etype_is, o_is, none, ns_is, filter_all (named p xs))
+
+-- the first entry of a class that has a key is the first of its name, version and enctype
+pub first_named : (p : Parts) (h v e place : ℕ) (key : List ℕ) (xs : List PlacedEntry) → key ≡ name_key p → h ≡ hash_of key → option_map {U = ℕ × List ℕ} (λ x. (x.0, entry_key x)) (find (is_in (h, v, e)) xs) ≡ Some (place, key)
+    → option_map (λ x. x.0) (find (is_of p (Some v) (Some e)) xs) ≡ Some place
+first_named p h v e place key [] key_is h_is found = absurd cc
+first_named p h v e place key (x ∷ xs) key_is h_is found =
+    grind (arith, key_is, h_is, found, first_named p h v e place key xs key_is h_is, names_agree p x.1.principal, bytes_eq-Decides (name_key p) (entry_key x))

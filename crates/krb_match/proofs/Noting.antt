@@ -1,5 +1,5 @@
 -- Entries are noted in their groups one after the other.
-use Rattle.krb_match.proofs.Cited.{◌≡◌, ◌∙◌, sym, ap, refl, arith, ℕ, Bool, true, cond, List, [], ◌∷◌, ◌++◌, Option, Some, None, ◌==◌, ◌&&◌, not, eqb-true, filter-append, fold-append, fold, list_any, filter, find, is_some, length, option_map, unwrap_or, BTreeMap, get, Updates, stamp_of, first_of, Parts, have_same_name, PlacedEntry, AreNoted, ArePlaced, ClassKey, class_cmp, same_class, find-append, option_or, IsNumbered, name_key, bytes_eq, get_or, Group, GroupKey, IsNoted, firsts_of, group_cmp, group_in, grown, is_any, is_of, same_key, seen_group, with_entry, IsAdded, is_first_in}
+use Rattle.krb_match.proofs.Cited.{◌≡◌, ◌∙◌, sym, ap, refl, arith, ℕ, Bool, true, false, cond, List, [], ◌∷◌, ◌++◌, Option, Some, None, ◌==◌, ◌&&◌, not, eqb-true, filter-append, fold-append, fold, list_any, filter, find, is_some, length, option_map, unwrap_or, BTreeMap, get, Updates, stamp_of, first_of, Parts, have_same_name, PlacedEntry, AreNoted, ArePlaced, ClassKey, is_in, placed_in, same_class, entry_key, find-append, option_or, IsNumbered, name_key, bytes_eq, get_or, Group, GroupKey, IsNoted, firsts_of, group_cmp, group_in, grown, is_any, is_of, same_key, seen_group, with_entry, IsAdded, is_first_in}
 use Rattle.std.specs.Option.{option_cmp, option_eq}
 use Rattle.std.specs.Ordering.{nat_cmp, is_eq}
 use Rattle.std.specs.Prelude.{nat_eq}
@@ -7,6 +7,8 @@ use Rattle.std.proofs.lemmas.Bool.Decides.{nat_tests}
 use Rattle.std.proofs.lemmas.List.{get_or_default}
 use Rattle.std.proofs.lemmas.List.Folds.{Any-from_list_any}
 use Rattle.std.proofs.lemmas.Slice.Eq.{bytes_eq-Decides}
+use denote.Ref.{Bor}
+use Rattle.krb_names.specs.Hash.{hash_of}
 use Rattle.krb_copy.proofs.ClassKeys.{names_agree}
 use Rattle.krb_match.proofs.Finding.{some_found}
 use Rattle.krb_match.proofs.Found.{group_first}
@@ -22,6 +24,10 @@ any_filter t q (x ∷ xs) = grind (arith, any_filter t q xs)
 
 pub and-true : (b : Bool) → (b && true) ≡ b
 and-true b = grind arith
+
+pub not_false : (b : Bool) → not b ≡ false → b ≡ true
+not_false true e = refl
+not_false false e = absurd cc
 
 -- the enctypes of a group are those of its entries
 any_first : (t : ℕ → Bool) (ys : List PlacedEntry) → list_any (λ f. t f.1) (firsts_of (fold with_entry None ys)) ≡ list_any (λ y. t y.1.enctype) ys
@@ -82,8 +88,8 @@ noted i v e x a b old one two three new v_is e_is a_is b_is first second third f
 pub none_noted : {A : Type 0} (names : List (List ℕ)) (groups : BTreeMap GroupKey (Group A)) → groups.entries ≡ [] → AreNoted names [] groups
 none_noted names groups empty p i v e number = rw empty refl
 
-pub none_placed : (names : List (List ℕ)) (places : BTreeMap ClassKey ℕ) → places.entries ≡ [] → ArePlaced names [] places
-none_placed names places empty p i v e number = rw empty refl
+pub none_placed : (places : BTreeMap ClassKey (ℕ × Bor (List ℕ))) → places.entries ≡ [] → ArePlaced [] places
+none_placed places empty k = rw empty refl
 
 -- two names have one number iff they are the same
 same_number : (names : List (List ℕ)) (p q : Parts) (i j : ℕ) → IsNumbered names p (Some i) → IsNumbered names q (Some j) → (i == j) ≡ have_same_name q p
@@ -100,7 +106,7 @@ pub noted_next : {A : Type 0} (names : List (List ℕ)) (before : List PlacedEnt
 noted_next names before x i old new h number n p j v e first =
     grind (arith, n (j, v, e), same_number names x.1.principal p i j number first, h p j v e first, h p j v (Some x.1.enctype) first, same_etypes p v e x.1.enctype before, fold_push with_entry (is_of p v e) None before x)
 
-pub placed_next : (names : List (List ℕ)) (before : List PlacedEntry) (x : PlacedEntry) (i v e : ℕ) (old new : BTreeMap ClassKey ℕ) → v ≡ x.1.version → e ≡ x.1.enctype → ArePlaced names before old → IsNumbered names x.1.principal (Some i)
-    → ((k : ClassKey) → get class_cmp new k ≡ cond (same_class (i, v, e) k) (option_or (get class_cmp old (i, v, e)) (Some x.0)) (get class_cmp old k)) → ArePlaced names (before ++ x ∷ []) new
-placed_next names before x i v e old new v_is e_is h number n p j w f first =
-    grind (arith, v_is, e_is, n (j, w, f), same_number names x.1.principal p i j number first, h p j w f first, find-append (is_of p (Some w) (Some f)) before (x ∷ []), eqb-true i j, eqb-true v w, eqb-true e f)
+pub placed_next : (before : List PlacedEntry) (x : PlacedEntry) (h v e : ℕ) (old new : BTreeMap ClassKey (ℕ × Bor (List ℕ))) → h ≡ hash_of (entry_key x) → v ≡ x.1.version → e ≡ x.1.enctype → ArePlaced before old
+    → ((k : ClassKey) → placed_in new k ≡ cond (same_class (h, v, e) k) (option_or (placed_in old (h, v, e)) (Some (x.0, entry_key x))) (placed_in old k)) → ArePlaced (before ++ x ∷ []) new
+placed_next before x h v e old new h_is v_is e_is were n k =
+    grind (arith, h_is, v_is, e_is, n k, were k, were (h, v, e), find-append (is_in k) before (x ∷ []), eqb-true h k.0, eqb-true v k.1, eqb-true e k.2)

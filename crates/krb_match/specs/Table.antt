@@ -8,6 +8,8 @@ use Rattle.std.specs.declared.cmp.Ordering.{Ordering}
 use Rattle.krb_wire.specs.Names.{have_same_name}
 use Rattle.krb_wire.specs.Spelling.{Parts}
 use Rattle.krb_keytab.specs.Find.{PlacedEntry}
+use denote.Ref.{Bor}
+use Rattle.krb_names.specs.Hash.{hash_of}
 use Rattle.krb_names.specs.Set.{IsAlone, is_among}
 use Rattle.krb_audit.specs.Newest.{is_newer}
 use Rattle.krb_audit.specs.Rows.{stamp_of, stamped}
@@ -16,7 +18,7 @@ use Rattle.krb_match.specs.declared.group.Group.{Group}
 use Rattle.krb_match.specs.declared.fitting.Fitting.{Fitting}
 use Rattle.krb_match.specs.declared.keys.Keys.{Keys}
 use Rattle.krb_match.specs.Match.{fitting, has_name}
-use Rattle.krb_match.specs.Names.{name_key}
+use Rattle.krb_match.specs.Names.{entry_key, name_key}
 
 -- ---- groups of entries
 
@@ -92,7 +94,7 @@ IsAdded key is_first x old new = (k : GroupKey) → group_in new k ≡ (if same_
 abbrev pub IsNoted : {A : Type 0} → ℕ → PlacedEntry → BTreeMap GroupKey (Group A) → BTreeMap GroupKey (Group A) → Type 0
 IsNoted number x old new = (k : GroupKey) → group_in new k ≡ (if number == k.0 && (is_any k.1 x.1.version && is_any k.2 x.1.enctype) then grown (is_first_in None (group_in old (k.0, k.1, Some x.1.enctype))) (group_in old k) x else group_in old k)
 
--- the number of a name, a version and an enctype
+-- the hash of a name's key, a version and an enctype
 abbrev pub ClassKey : Type 0
 ClassKey = ℕ × ℕ × ℕ
 
@@ -111,9 +113,17 @@ pub record IsNumbered (names : List (List ℕ)) (p : Parts) (number : Option ℕ
 abbrev pub AreNoted : {A : Type 0} → List (List ℕ) → List PlacedEntry → BTreeMap GroupKey (Group A) → Type 0
 AreNoted names before groups = (p : Parts) (i : ℕ) (version etype : Option ℕ) → IsNumbered names p (Some i) → group_in groups (i, version, etype) ≡ fold with_entry None (filter (is_of p version etype) before)
 
--- the map has the place of the first of the entries so far that have a name, a version and an enctype
-abbrev pub ArePlaced : List (List ℕ) → List PlacedEntry → BTreeMap ClassKey ℕ → Type 0
-ArePlaced names before places = (p : Parts) (i v e : ℕ) → IsNumbered names p (Some i) → get class_cmp places (i, v, e) ≡ option_map (λ x. x.0) (find (is_of p (Some v) (Some e)) before)
+-- the place and the name's key that a map has for a class
+abbrev pub placed_in : BTreeMap ClassKey (ℕ × Bor (List ℕ)) → ClassKey → Option (ℕ × List ℕ)
+placed_in places k = option_map (λ v. (v.0, v.1.now)) (get class_cmp places k)
+
+-- an entry has that hash, version and enctype
+abbrev pub is_in : ClassKey → PlacedEntry → Bool
+is_in k x = hash_of (entry_key x) == k.0 && (x.1.version == k.1 && x.1.enctype == k.2)
+
+-- the map has the first of the entries so far that have a hash, a version and an enctype
+abbrev pub ArePlaced : List PlacedEntry → BTreeMap ClassKey (ℕ × Bor (List ℕ)) → Type 0
+ArePlaced before places = (k : ClassKey) → placed_in places k ≡ option_map (λ x. (x.0, entry_key x)) (find (is_in k) before)
 
 -- ---- what fits a ticket
 
@@ -141,11 +151,6 @@ fitting_of asked etype xs = fitting asked (filter (λ x. is_any etype x.1.enctyp
 -- a name has that number
 abbrev pub HasNumber : {A : Type 0} → Keys A → Parts → ℕ → Type 0
 HasNumber keys p i = IsNumbered keys.names p (Some i)
-
--- the names and the places are those of entries
-pub record AreClasses (xs : List PlacedEntry) (names : List (List ℕ)) (places : BTreeMap ClassKey ℕ) : Type 0 where
-  pub known : (p : Parts) → is_among names (name_key p) ≡ has_name p xs
-  pub placed : ArePlaced names xs places
 
 -- the places of entries ascend
 abbrev pub Rises : List PlacedEntry → Type 0

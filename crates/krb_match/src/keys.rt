@@ -5,7 +5,7 @@ ghost use Rattle.std.specs.Vec.{vec_items};
 ghost use Rattle.krb_wire.specs.Spelling.{Parts};
 ghost use Rattle.krb_keytab.specs.Find.{PlacedEntry, placed_entries};
 ghost use Rattle.krb_names.specs.Set.{is_among};
-ghost use Rattle.krb_match.specs.Match.{asked_version, entry_etype, judged_among, named, opener, wanted};
+ghost use Rattle.krb_match.specs.Match.{asked_version, entry_etype, has_name, judged_among, named, opener, wanted};
 ghost use Rattle.krb_match.specs.Names.{entry_key, name_key};
 ghost use Rattle.krb_match.specs.Table.{AreKeys, AreNoted, AreUnited, HasNumber, IsNumbered, first_of, fitting_of, versions};
 
@@ -154,6 +154,13 @@ impl<'k, A: Allocator + Copy> Keys<'k, A> {
             return Judgement::Kvno(newest(&self.groups, (number, None, None)));
         }
         Judgement::Etype(etypes)
+    }
+
+    /// Returns whether an entry has the name with that key. Takes log n comparisons.
+    pub fn has(&self, key: &[u8]) -> bool
+        ensures { (xs : List PlacedEntry) (p : Parts) → AreKeys xs self.now → key.now ≡ name_key p → result ≡ has_name p xs }
+    {
+        self.names.contains(key)
     }
 
     /// Returns what is said of a ticket under the name with that key. Takes log n comparisons.

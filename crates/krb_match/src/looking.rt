@@ -8,7 +8,7 @@ ghost use Rattle.krb_keytab.specs.Find.{PlacedEntry, placed_entries};
 ghost use Rattle.krb_ccache.specs.Ticket.{ticket_encryption};
 ghost use Rattle.krb_ccache.specs.Store.{PlacedCredential, placed_credentials};
 ghost use Rattle.krb_match.specs.Looking.{AreMatched, IsJudge, IsNear, IsSaid};
-ghost use Rattle.krb_match.specs.Match.{judged, judged_among, name_of, named, ticket_of};
+ghost use Rattle.krb_match.specs.Match.{has_name, judged, judged_among, name_of, named, ticket_of};
 ghost use Rattle.krb_match.specs.Names.{name_key};
 ghost use Rattle.krb_match.specs.Table.{AreKeys};
 ghost use Rattle.krb_match.specs.Tickets.{first_near, is_asked, looked_at, matched, near_by};
@@ -23,6 +23,9 @@ use krb_audit::{NameFilter, is_of_gssproxy, is_service};
 use krb_ccache::{Ccache, CredView, TicketEncryption, is_config, read_own};
 use krb_wire::{Name, NoMemory};
 use std::alloc::Allocator;
+
+// How many bytes a credential seldom has less than.
+const USUAL_LEN: usize = 256;
 
 /// The tickets of a cache that are looked at, and the number of the entry that is named after them.
 #[derive(Drop)]
@@ -45,6 +48,32 @@ struct Judge<'m, 'k, 't, A: Allocator> {
 }
 
 impl<'k, A: Allocator + Copy> Judge<'_, 'k, '_, A> {
+    // Returns the entries by all that tickets ask for.
+    fn take_keys(&mut self) -> Result<Keys<'k, A>, NoMemory>
+        ensures kept { (texts : List (List ℕ)) (wanted : Bool) (xs : List PlacedEntry) → IsJudge texts wanted xs self.old
+            → IsJudge texts wanted xs self.new }
+        ensures keys { (texts : List (List ℕ)) (wanted : Bool) (xs : List PlacedEntry) → IsJudge texts wanted xs self.old
+            → IfOk result (AreKeys xs) }
+    {
+        match self.keys.take() {
+            Some(keys) => Ok(keys),
+            None => self.classes.all(self.alloc),
+        }
+    }
+
+    // Returns whether an entry has the name with that key.
+    fn has(&mut self, key: &[u8]) -> Result<bool, NoMemory>
+        ensures kept { (texts : List (List ℕ)) (wanted : Bool) (xs : List PlacedEntry) → IsJudge texts wanted xs self.old
+            → IsJudge texts wanted xs self.new }
+        ensures has { (texts : List (List ℕ)) (wanted : Bool) (xs : List PlacedEntry) (p : Parts)
+            → IsJudge texts wanted xs self.old → key.now ≡ name_key p → IfOk result (λ b. b ≡ has_name p xs) }
+    {
+        let keys = self.take_keys()?;
+        let has = keys.has(key);
+        self.keys = Some(keys);
+        Ok(has)
+    }
+
     // Returns whether a ticket of that name, which has that key, is asked for.
     fn asks_for<N: Name>(
         &mut self,
@@ -61,20 +90,10 @@ impl<'k, A: Allocator + Copy> Judge<'_, 'k, '_, A> {
         if self.asks {
             return Ok(self.names.passes(ticket.server())? || self.names.passes(name)?);
         }
-        Ok(is_service(name) || self.classes.has(key))
-    }
-
-    // Returns the entries by all that tickets ask for.
-    fn take_keys(&mut self) -> Result<Keys<'k, A>, NoMemory>
-        ensures kept { (texts : List (List ℕ)) (wanted : Bool) (xs : List PlacedEntry) → IsJudge texts wanted xs self.old
-            → IsJudge texts wanted xs self.new }
-        ensures keys { (texts : List (List ℕ)) (wanted : Bool) (xs : List PlacedEntry) → IsJudge texts wanted xs self.old
-            → IfOk result (AreKeys xs) }
-    {
-        match self.keys.take() {
-            Some(keys) => Ok(keys),
-            None => self.classes.all(self.alloc),
+        if is_service(name) {
+            return Ok(true);
         }
+        self.has(key)
     }
 
     // Returns what is said of a ticket that can be read, under the name with that key.
@@ -241,7 +260,7 @@ pub fn match_tickets<'m, 'k, A: Allocator + Copy, B: Allocator, C: Allocator>(
         scratch: Vec::new(alloc),
     };
     let mut matched = Matched {
-        tickets: Vec::new(alloc),
+        tickets: Vec::with_capacity(alloc, cache.image().len() / USUAL_LEN)?,
         near: None,
     };
     'credentials: for (place, ticket) in cache.credentials() {

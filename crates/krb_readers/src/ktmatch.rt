@@ -46,7 +46,7 @@ fn name_entry<A: Allocator + Copy, E: Write>(
 // Matches the tickets of a cache after others.
 fn match_next<A: Allocator + Copy, B: Allocator, F: Files, R: Read, W: Write, E: Write>(
     alloc: A,
-    command: &MatchFiles<'_, A, B>,
+    command: &MatchFiles<'_, '_, A, B>,
     before: Ran<MatchState>,
     file: FileName<'_>,
     world: &mut World<F, R, W, E>,
@@ -68,7 +68,7 @@ fn match_next<A: Allocator + Copy, B: Allocator, F: Files, R: Read, W: Write, E:
 // Matches the tickets of caches, one after the other.
 fn match_caches<A: Allocator + Copy, B: Allocator, F: Files, R: Read, W: Write, E: Write>(
     alloc: A,
-    command: &MatchFiles<'_, A, B>,
+    command: &MatchFiles<'_, '_, A, B>,
     names: &[FileName<'_>],
     world: &mut World<F, R, W, E>,
 ) -> Ran<MatchState>

@@ -20,12 +20,15 @@ use krb_match::{MatchedTicket, Matcher};
 use krb_wire::NoMemory;
 use std::alloc::Allocator;
 
+// How many bytes a line seldom exceeds.
+const USUAL_LINE: usize = 80;
+
 /// The command ktmatch over caches, with the keytab of that name.
 #[derive(Clone, Copy)]
-pub struct MatchFiles<'f, A: Allocator, B: Allocator> {
+pub struct MatchFiles<'f, 'k, A: Allocator, B: Allocator> {
     pub options: &'f MatchOptions<B>,
     pub keytab: &'f str,
-    pub matcher: &'f Matcher<'f, A>,
+    pub matcher: &'f Matcher<'k, A>,
     /// One of several caches.
     pub are_several: bool,
 }
@@ -33,7 +36,7 @@ pub struct MatchFiles<'f, A: Allocator, B: Allocator> {
 // Returns what is shown of tickets, which a cache with that fault has: their lines, or what JSON is written of.
 fn page_of<'f, A: Allocator + Copy, B: Allocator>(
     alloc: A,
-    command: &MatchFiles<'f, A, B>,
+    command: &MatchFiles<'f, '_, A, B>,
     file: FileName<'_>,
     tickets: Vec<MatchedTicket<A>, A>,
     judged: Judged,
@@ -43,13 +46,14 @@ fn page_of<'f, A: Allocator + Copy, B: Allocator>(
 {
     let (options, keytab) = (command.options, command.keytab);
     let verdict = Verdict::Judged(judged);
-    let mut text = Vec::new(alloc);
     if !options.json {
         let label = label_of(alloc, options.with_filename || command.are_several, file)?;
+        let mut text = Vec::with_capacity(alloc, tickets.len().saturating_mul(USUAL_LINE))?;
         append_lines(options.quiet, &label, &tickets, judged.fault, &mut text)?;
         return Ok(FilePage::Lines(Output { text, verdict }));
     }
     if options.quiet && !judged.is_wrong {
+        let text = Vec::new(alloc);
         return Ok(FilePage::Lines(Output { text, verdict }));
     }
     Ok(FilePage::Object(MatchObject {
@@ -62,7 +66,7 @@ fn page_of<'f, A: Allocator + Copy, B: Allocator>(
 // Returns what is shown of a cache.
 fn shown<'a, 'f, A: Allocator + Copy, B: Allocator>(
     alloc: A,
-    command: &MatchFiles<'f, A, B>,
+    command: &MatchFiles<'f, '_, A, B>,
     state: MatchState,
     file: FileName<'a>,
     cache: &Ccache<A>,
@@ -78,7 +82,7 @@ fn shown<'a, 'f, A: Allocator + Copy, B: Allocator>(
     Ok(Made::Shows(page))
 }
 
-impl<'c, A: Allocator + Copy, B: Allocator> OverFiles<A> for MatchFiles<'c, A, B> {
+impl<'c, A: Allocator + Copy, B: Allocator> OverFiles<A> for MatchFiles<'c, '_, A, B> {
     type State = MatchState;
 
     type Shown = FilePage<A, MatchObject<'c, A>>;

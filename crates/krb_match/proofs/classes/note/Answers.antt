@@ -1,10 +1,10 @@
 use Rattle.std.proofs.lemmas.Result.{on_ok_weaker}
-use Rattle.krb_match.proofs.Cited.{◌∙◌, PlacedEntry}
+use Rattle.krb_match.proofs.Cited.{◌∙◌, ap, PlacedEntry}
+use Rattle.krb_names.specs.Hash.{hash_of}
 use Rattle.krb_match.proofs.Noting.{placed_next}
 use Rattle.krb_match.proofs.classes.note.Goals as goal
 
-pub returns-in-Some : goal.returns-in-Some
-returns-in-Some g c = λ before key there h.
+pub returns : goal.returns
+returns g c = λ before key h.
     let x : PlacedEntry = (c.args.place, c.args.entry.now) in
-    let number = rw c.in-Some.is at (c.number_of.ensures x.1.principal key) in
-    on_ok_weaker c.add.result (placed_next c.args.names.now before x c.in-Some.number c.kvno.result c.from.result c.args.places.now c.add.new.places c.kvno.ensures (c.from.ensures ∙ c.enctype.ensures) h number) c.add.ensures
+    on_ok_weaker c.add.result (λ n. placed_next before x c.hash_of.result c.kvno.result c.from.result c.args.places.now c.add.new.places (c.hash_of.ensures ∙ ap hash_of key) c.kvno.ensures (c.from.ensures ∙ c.enctype.ensures) h (λ k. rw key at (n k))) c.add.ensures

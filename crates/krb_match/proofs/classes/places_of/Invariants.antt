@@ -7,5 +7,5 @@ invariant-entries g l = record {
   before : List PlacedEntry;
   parts : before ++ l.place-iterator ≡ placed_entries l.keytab.state;
   keys : map vec_items l.rest ≡ map entry_key l.place-iterator;
-  placed : ArePlaced l.names before l.places;
+  placed : ArePlaced before l.places;
 }
