@@ -1,11 +1,11 @@
 -- Names as keys, and which names are nearly the same.
-use Rattle.std.specs.Prelude.{◌≡◌, ℕ, ◌+◌, List, [], ◌∷◌, map, drop, slice_get, Bool, true, false, ◌||◌, Option, None, Some, IfSome, is_some, option_map}
-use Rattle.std.specs.List.{list_any, position_from}
+use Rattle.std.specs.Prelude.{◌≡◌, ℕ, List, [], ◌∷◌, map, slice_get, Bool, ◌||◌, Option, IfSome, is_some}
+use Rattle.std.specs.List.{position_from}
 use Rattle.std.specs.Option.{option_map_or}
 use Rattle.std.specs.Str.{bytes_eq}
 use Rattle.std.specs.Vec.{vec_items}
 use Rattle.std.specs.Char.{to_ascii_lowercase}
-use Rattle.krb_wire.specs.Names.{have_same_name, name_text}
+use Rattle.krb_wire.specs.Names.{name_text}
 use Rattle.krb_wire.specs.Spelling.{Parts}
 use Rattle.krb_keytab.specs.Find.{PlacedEntry, placed_entries}
 use Rattle.krb_keytab.specs.Store.{KeytabState}

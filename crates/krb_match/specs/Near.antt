@@ -1,5 +1,5 @@
 -- How entries are found whose names are nearly those of tickets.
-use Rattle.std.specs.Prelude.{◌≡◌, ℕ, List, map, Bool, if◌then◌else◌, Option, None, Some, nat_lt}
+use Rattle.std.specs.Prelude.{◌≡◌, ℕ, List, map, if◌then◌else◌, Option, None, Some, nat_lt}
 use Rattle.std.specs.Vec.{vec_items}
 use Rattle.krb_names.specs.Set.{HaveSameNames}
 use Rattle.krb_match.specs.declared.near.FoundKeys.{FoundKeys}

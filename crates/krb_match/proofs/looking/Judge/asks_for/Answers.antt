@@ -2,7 +2,7 @@ use Rattle.std.proofs.lemmas.Result.{IfOk-weaker}
 use Rattle.std.specs.Prelude.{not}
 use Rattle.krb_ccache.specs.Credential.{CredParts}
 use Rattle.krb_audit.specs.Tickets.{is_service}
-use Rattle.krb_match.proofs.Cited.{◌≡◌, ◌∙◌, sym, ap, arith, eqb-true, ℕ, Bool, false, List, [], ◌∷◌, length, ◌==◌, Parts, PlacedEntry, has_name}
+use Rattle.krb_match.proofs.Cited.{◌≡◌, ◌∙◌, sym, ap, arith, eqb-true, ℕ, false, List, [], ◌∷◌, length, ◌==◌, Parts, PlacedEntry, has_name}
 use Rattle.krb_match.proofs.Noting.{not_false}
 use Rattle.krb_match.specs.Match.{name_of}
 use Rattle.krb_match.specs.Tickets.{is_asked}
