@@ -2,7 +2,6 @@
 use Rattle.std.specs.Prelude.{◌≡◌, ℕ, ◌+◌, List, [], ◌∷◌, ◌++◌, Bool, false, true, not, ◌&&◌, ◌||◌, ◌==◌, nat_eq, nat_lt, filter, map, Option, None, Some, is_some}
 use Rattle.std.specs.List.{flat_map, list_any}
 use Rattle.std.specs.Str.{bytes_eq}
-use Rattle.std.specs.Vec.{vec_items}
 use Rattle.krb_wire.specs.Names.{name_text, have_same_name}
 use Rattle.krb_wire.specs.Spelling.{Parts}
 use Rattle.krb_keytab.specs.Entry.{EntryParts}
@@ -11,7 +10,6 @@ use Rattle.krb_keytab.specs.Store.{KeytabState}
 use Rattle.krb_keytab_text.specs.Listing.{removed_line}
 use Rattle.krb_audit.specs.declared.selection.SelectedKvno.{SelectedKvno}
 use Rattle.krb_audit.specs.declared.selection.SelectedKvno.TheVariants.{Any, Exactly, Newest, Old}
-use Rattle.krb_audit.specs.declared.selection.Selection.{Selection}
 use Rattle.krb_audit.specs.declared.selection.Selected.{Selected}
 use Rattle.krb_audit.specs.Newest.{is_old}
 
@@ -29,9 +27,15 @@ abbrev pub has_selected_enctype : List ℕ → ℕ → Bool
 has_selected_enctype [] enctype = true
 has_selected_enctype (first ∷ others) enctype = list_any (nat_eq enctype) (first ∷ others)
 
+-- which entries are selected: those of these names and of these enctypes, or of any if there are none, and of these kvnos
+pub record SelectionParts : Type 0 where
+  pub names : List (List ℕ)
+  pub kvno : SelectedKvno
+  pub enctypes : List ℕ
+
 -- an entry has the selected name and a selected enctype
-abbrev pub is_named : {A : Type 0} → Selection A → EntryParts → Bool
-is_named s e = has_text (map vec_items s.names.items) e.principal && has_selected_enctype s.enctypes.items e.enctype
+abbrev pub is_named : SelectionParts → EntryParts → Bool
+is_named s e = has_text s.names e.principal && has_selected_enctype s.enctypes e.enctype
 
 -- an entry may be less than `seconds` old: it is, or its time is 0, which says nothing of when
 abbrev pub is_young : ℕ → ℕ → EntryParts → Bool
@@ -59,15 +63,15 @@ needs_clock (Old age) = is_some age
 needs_clock kvno = false
 
 -- those of the entries that are selected at that time
-abbrev pub selected_of : {A : Type 0} → Selection A → ℕ → List PlacedEntry → List PlacedEntry
+abbrev pub selected_of : SelectionParts → ℕ → List PlacedEntry → List PlacedEntry
 selected_of s now xs = filter (λ x. is_named s x.1 && has_selected_kvno s.kvno now xs x.1) xs
 
 -- the entries of a keytab that are selected, in file order
-abbrev pub selected_in : {A : Type 0} → Selection A → ℕ → KeytabState → List PlacedEntry
+abbrev pub selected_in : SelectionParts → ℕ → KeytabState → List PlacedEntry
 selected_in s now k = selected_of s now (placed_entries k)
 
 -- the result is these entries: their places, their lines, each after a label, and whether some entry has the name and enctype
-pub record Selects {A B : Type 0} (label : List ℕ) (s : Selection A) (now : ℕ) (k : KeytabState) (selected : Selected B) : Type 0 where
+pub record Selects {A : Type 0} (label : List ℕ) (s : SelectionParts) (now : ℕ) (k : KeytabState) (selected : Selected A) : Type 0 where
   pub places : selected.places.items ≡ map (λ x. x.0) (selected_in s now k)
   pub text : selected.text.items ≡ flat_map (λ x. label ++ removed_line x) (selected_in s now k)
   pub is_named : selected.is_named ≡ list_any (λ x. is_named s x.1) (placed_entries k)

@@ -29,7 +29,7 @@ pub fn is_named_if_it_matters<A: Allocator, B: Allocator>(
     names: &mut NameFilter<'_, A>,
     entry: &EntryView<'_>,
 ) -> Result<bool, NoMemory>
-    ensures named { AsksFor (map vec_items selection.now.names.items) names.old.names
+    ensures named { AsksFor selection.now.names names.old.names
         → IfOk result (λ b. b ≡ (not (is_any_named && not has_kvno) && is_named selection.now entry.now)) }
     ensures kept { names.new.names ≡ names.old.names }
 {

@@ -13,6 +13,7 @@ use krb_keytab_text::append_placed;
 use krb_text::append;
 use krb_wire::NoMemory;
 use std::alloc::Allocator;
+use std::marker::Model;
 
 /// Which kvnos are selected.
 #[derive(Clone, Copy, Debug, PartialEq, Eq)]
@@ -35,7 +36,8 @@ impl SelectedKvno {
     }
 }
 
-/// Which entries are selected: those that meet all criteria given.
+/// Which entries are selected: those that meet all criteria given. Contracts see the criteria, not where they are
+/// stored.
 #[derive(Drop)]
 pub struct Selection<A: Allocator> {
     /// The names as they are printed; an empty list selects any.
@@ -43,6 +45,20 @@ pub struct Selection<A: Allocator> {
     pub kvno: SelectedKvno,
     /// The enctypes; an empty list selects any.
     pub enctypes: Vec<u16, A>,
+}
+
+impl<A: Allocator> Model for Selection<A> {
+    ghost use Rattle.std.specs.Prelude.{map};
+    ghost use Rattle.std.specs.Vec.{vec_items};
+    ghost use Rattle.krb_audit.specs.Selection.{SelectionParts};
+
+    ghost Value = { SelectionParts };
+
+    ghost view = { λ s. record {
+      names = map vec_items s.names.items;
+      kvno = s.kvno;
+      enctypes = s.enctypes.items;
+    } };
 }
 
 /// The entries of a keytab that a `Selection` selects.

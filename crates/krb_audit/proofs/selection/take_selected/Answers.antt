@@ -1,4 +1,4 @@
-use Rattle.krb_audit.proofs.ForAnswers.{List, Bool, map, vec_items, sym, subst, PlacedEntry, placed_entries, AreVersions, has_selected_kvno, is_named, AsksFor, IsOnTheWay, one_further}
+use Rattle.krb_audit.proofs.ForAnswers.{List, Bool, sym, subst, PlacedEntry, placed_entries, AreVersions, has_selected_kvno, is_named, AsksFor, IsOnTheWay, one_further}
 use Rattle.krb_audit.proofs.selection.take_selected.Goals as goal
 
 -- the next entry was taken if it is selected
@@ -16,7 +16,7 @@ entries-preserved g c =
     let version = c.next-has_kvno.ensures s.kvno c.args.now all rest x versions (sym c.kvno.ensures) in
     let on = subst (λ (xs : List PlacedEntry). IsOnTheWay has_taken named has_kvno all xs c.entries.is_any_named c.entries.taker) c.in-Some.ensures.steps h.taken in
     record {
-      names = subst (AsksFor (map vec_items s.names.items)) (sym c.in_ok-is_named.ensures.kept) h.names;
+      names = subst (AsksFor s.names) (sym c.in_ok-is_named.ensures.kept) h.names;
       versions = version.1;
       taken = one_further has_taken named has_kvno all rest x c.entries.is_any_named c.next-has_kvno.result c.in_ok-is_named.is_named c.entries.taker c.take_if.new.taker on version.0 (c.in_ok-is_named.ensures.named h.names) c.in_ok-take_if.ensures;
     }
