@@ -14,7 +14,6 @@ mod missing;
 mod mit;
 mod mode;
 mod name_filter;
-mod names;
 mod newest;
 mod report;
 mod rows;

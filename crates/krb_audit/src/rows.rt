@@ -1,19 +1,21 @@
 //! The entries of a keytab with their names numbered.
 
-ghost use Rattle.std.specs.Prelude.{◌≡◌, ◌∷◌, List, IfOk, OnOk, Some, unwrap_or};
+ghost use Rattle.std.specs.Prelude.{◌≡◌, ◌∷◌, List, IfOk, IfSome, OnOk, Some, unwrap_or};
 ghost use Rattle.std.specs.List.{All};
 ghost use Rattle.std.specs.Vec.Iter.{into_iter_items};
 ghost use Rattle.std.specs.BTreeMap.{get, Updates};
+ghost use Rattle.krb_wire.specs.Reading.{Gives};
+ghost use Rattle.krb_wire.specs.Spelling.{FitsKt};
 ghost use Rattle.krb_keytab.specs.Entry.{entry_at};
 ghost use Rattle.krb_keytab.specs.Find.{PlacedEntry, placed_entries};
 ghost use Rattle.krb_names.specs.Hash.{name_cmp};
+ghost use Rattle.krb_audit.specs.Names.{kt_name, type_len};
 ghost use Rattle.krb_audit.specs.Rows.{AreNumbered, AreRows, HasPlace, first_number};
 
-use crate::names::named_entry;
 use crate::newest::Stamp;
-use krb_keytab::{Keytab, KtCell};
+use krb_keytab::{EntryView, Keytab, KtCell, read_entry};
 use krb_names::hash_of;
-use krb_wire::{KtFormat, NoMemory};
+use krb_wire::{KtFormat, NoMemory, split_kt_principal};
 use std::alloc::Allocator;
 use std::collections::BTreeMap;
 use std::vec::IntoIter;
@@ -23,6 +25,26 @@ use std::vec::IntoIter;
 pub struct Row {
     pub first: u32,
     pub stamp: Stamp,
+}
+
+// Returns the size of a name type in bytes: 0 if the format has none.
+fn name_type_len(format: KtFormat) -> usize
+    ensures { result ≡ type_len format }
+{
+    if format.has_name_type() { 4 } else { 0 }
+}
+
+// Returns those bytes of a record that encode its entry's name without the name type, and the entry.
+fn named_entry(format: KtFormat, bytes: &[u8]) -> Option<(&[u8], EntryView<'_>)>
+    ensures entry { Gives (λ x. x.1) result (entry_at format bytes.now) }
+    ensures name { IfSome result (λ x. x.0.now ≡ kt_name format x.1.principal) }
+    // Names that fit are the same iff these bytes are.
+    ensures fits { IfSome result (λ x. FitsKt format x.1.principal) }
+{
+    let entry = read_entry(format, bytes)?;
+    let (_, rest) = split_kt_principal(format, bytes)?;
+    let end = bytes.len() - rest.len() - name_type_len(format);
+    Some((bytes.split_at(end).0, entry))
 }
 
 // Returns the number of a name. A new name gets the number `next`.

@@ -1,6 +1,6 @@
 use Rattle.krb_audit.proofs.Cited.{◌≡◌, length, arith, ◌∙◌, kt_name, ◌-◌}
 use Rattle.krb_audit.proofs.NameBytes.{opens, is_read, lengths, name_taken}
-use Rattle.krb_audit.proofs.names.named_entry.Goals as goal
+use Rattle.krb_audit.proofs.rows.named_entry.Goals as goal
 
 pub returns-in_err-rest-clause-entry : goal.returns-in_err-rest-clause-entry
 returns-in_err-rest-clause-entry c = search (arith, is_read)
