@@ -8,6 +8,7 @@ use Rattle.krb_driver.specs.declared.command.Ready.TheVariants as ready
 use Rattle.krb_driver.specs.declared.error.RunError.TheVariants.{OutputNotWritten}
 use Rattle.krb_files.specs.declared.aftermath.Aftermath.{Aftermath}
 use Rattle.krb_driver.specs.declared.reporting.details.Details.{Details}
+use Rattle.krb_driver.specs.EndingWords.{ending_words}
 use Rattle.std.proofs.Math.Seq.{take-suc}
 use Rattle.std.proofs.lemmas.Grind.{flat_map-append}
 use Rattle.std.proofs.lemmas.List.FromFn.{map-range_with_len_more}
@@ -34,6 +35,7 @@ words_if-nothing false = refl
 
 -- nothing was to be reported of a run that went well, and saved nothing
 pub ReportsEnd-nothing : (file : List ℕ) (line : Option ℕ) (details : Details) (err : ErrorWatch) → details.aftermath ≡ None → ReportsEnd file line details (Ok Well) err err
+unfolding ending_words
 ReportsEnd-nothing file line details err none = record {
   writes = subst (λ (words : List ℕ). Writes err.to err.to (words ++ aftermath_text err.explains file line details.aftermath)) (sym (words_if-nothing err.explains))
       (subst (λ (a : Option Aftermath). Writes err.to err.to (aftermath_text err.explains file line a)) (sym none) (Writes-nothing err.to));

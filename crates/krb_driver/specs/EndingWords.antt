@@ -203,7 +203,7 @@ word_line explained finding =
     line_if (has explained finding) (codes "krbfile: " ++ ((row_of finding).word ++ (codes ": " ++ ((row_of finding).phrase ++ codes "\n"))))
 
 -- the words for the fault that was found, if one was
-abbrev pub found_fault_words : List ℕ → Option Fault → List ℕ
+unfoldable pub found_fault_words : List ℕ → Option Fault → List ℕ
 found_fault_words file None = []
 found_fault_words file (Some fault) = listed_words file fault
 
@@ -270,6 +270,6 @@ itemized_words file (Judged judged) = flat_map (word_line judged.words) findings
 itemized_words file verdict = []
 
 -- the words that explain the end of a run
-abbrev pub ending_words : List ℕ → Option ℕ → Details → Ending → List ℕ
+unfoldable pub ending_words : List ℕ → Option ℕ → Details → Ending → List ℕ
 ending_words file line details (Ok verdict) = verdict_words file line verdict ++ itemized_words file verdict
 ending_words file line details (Err error) = error_words file line details error

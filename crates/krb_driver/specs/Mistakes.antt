@@ -123,7 +123,7 @@ more_words (more.Help text) = text.now
 -- ---- the command line
 
 -- the line of a mistake, with the reference to the help, and what follows
-abbrev pub mistake_words : Mistake → Option (List ℕ) → More → List ℕ
+unfoldable pub mistake_words : Mistake → Option (List ℕ) → More → List ℕ
 mistake_words what command more = codes "krbfile: " ++ (mistake_line (mistake_parts what) ++ (help_of command ++ more_words more))
 
 -- the message for words that were not read, with or without the words that explain it

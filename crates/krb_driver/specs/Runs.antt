@@ -74,7 +74,7 @@ pub record Writes (old new : Watch) (text : List ℕ) : Type 0 where
   pub whole : IsFalse new.failed → Appends old.contents new.contents text
 
 -- the words for a name that the keytab has, if one is given
-abbrev pub near_words : Option (List ℕ) → List ℕ
+unfoldable pub near_words : Option (List ℕ) → List ℕ
 near_words None = []
 near_words (Some name) = codes "krbfile: the keytab has " ++ (name ++ codes "\n")
 

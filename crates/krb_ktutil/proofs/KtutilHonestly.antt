@@ -4,6 +4,7 @@ use Rattle.std.proofs.Math.Bool.{and-false}
 use mathlib.Core.Path.{fun_ext}
 use Rattle.krb_files.specs.declared.aftermath.Aftermath.{Aftermath}
 use Rattle.krb_files.specs.declared.files.LoadFault.TheVariants as load
+use Rattle.krb_driver.specs.EndingWords.{ending_words}
 use Rattle.krb_driver.specs.Commands.{Settles, ShowsEnd, Displays, IsSpent, Saves, about, files_after, is_save, reported_aftermath, settled}
 use Rattle.krb_ktutil.proofs.InputLemmas.{AreLines, are_first, lines_after}
 use Rattle.krb_ktutil.proofs.KtutilDue.{line_lasts, makes_due, makes_lasts}
@@ -122,6 +123,7 @@ module _ {F : Type 0} (trait : Ghosts F) (prompts : Bool) (now number : ℕ) (li
 
   -- that memory ran out was reported
   leaves_spent : trait.is_honest old.files → LineSpent → IsFalse new.out.failed → (handles.end.ending ≡ Err NoMemory) × LeavesDue trait prompts (last_due [] (final_report old.state.awaiting (ends_by NoMemory)) (trait.file old.files)) old new
+  unfolding ending_words
   leaves_spent honest spent well =
       let s = shown honest (Fails spent.1.0 NoMemory) old.state old.state (refl, λ _. refl) spent.1.1 well in
       let r = s.1.1 in

@@ -37,6 +37,7 @@ fn add_items<E: Write>(verdict: Verdict, file: &[u8], gathered: &mut Gathered, e
 }
 
 /// Adds the words that explain the end of a run over `file`, or of line `line` of ktutil.
+#[tactic(auto, unfolding(crate::specs::EndingWords::ending_words))]
 pub fn add_ending_words<E: Write>(
     ending: Result<Verdict, RunError>,
     file: &[u8],
@@ -139,6 +140,7 @@ fn add_word_lines<E: Write>(
 }
 
 /// Returns the words for the fault that was found, if any.
+#[tactic(auto, unfolding(crate::specs::EndingWords::found_fault_words))]
 pub fn fault_words(file: &[u8], fault: Option<Fault>) -> Line<'_>
     ensures { pieces_text result ≡ found_fault_words file.now fault }
 {

@@ -16,6 +16,7 @@ use krb_walk::Fault;
 use std::io::Write;
 
 // Returns the words for a name that the keytab has, if one is given.
+#[tactic(auto, unfolding(crate::specs::Runs::near_words))]
 fn near_words(near: Option<&[u8]>) -> Line<'_>
     ensures { pieces_text result ≡ near_words (option_map (λ name. name.now) near.entry) }
 {
