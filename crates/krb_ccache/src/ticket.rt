@@ -1,7 +1,7 @@
 //! What a ticket has in its own bytes: its encryption and its server. Its tags are 0x61, [APPLICATION 1], 0x30, SEQUENCE,
 //! 0x1b, GeneralString, and for a field [0] 0xa0 and so on.
 
-ghost use Rattle.std.specs.Prelude.{◌≡◌, IfOk, IsTrue};
+ghost use Rattle.std.specs.Prelude.{◌≡◌, ◌↔◌, IfOk, IsTrue};
 ghost use Rattle.krb_wire.specs.Reading.{Gives, principal_parts};
 ghost use Rattle.krb_ccache.specs.Der.{signed};
 ghost use Rattle.krb_ccache.specs.Ticket.{int32_of, kvno_of, kvno_at, encrypted_data, ticket_in, ticket_encryption, server_in, ticket_server, server_parts};
@@ -28,7 +28,7 @@ pub struct TicketServer<'a> {
 
 // Returns whether strings are those components.
 fn are_same<A: Allocator>(mut strings: Strings<'_>, components: Components<'_, A>) -> bool
-    ensures { IsTrue result → strings.entry ≡ components.entry }
+    ensures { IsTrue result ↔ (strings.entry ≡ components.entry) }
 {
     'components: for component in components {
         match strings.next() {
@@ -42,7 +42,7 @@ fn are_same<A: Allocator>(mut strings: Strings<'_>, components: Components<'_, A
 impl TicketServer<'_> {
     /// Returns whether it is that name, and has its type.
     pub fn is(self, name: &PrincipalView<'_>) -> bool
-        ensures { IsTrue result → server_parts self.entry ≡ name.now }
+        ensures { IsTrue result ↔ (server_parts self.entry ≡ name.now) }
     {
         self.name_type.cast_unsigned() == name.name_type()
             && self.realm == name.realm()
