@@ -34,6 +34,37 @@ fn row_with(names: &'static [&'static str], key_size: Option<usize>, is_weak: bo
     }
 }
 
+const DES3: &[&str] = &[
+    "des3-cbc-sha1",
+    "des3",
+    "des3-hmac-sha1",
+    "des3-cbc-sha1-kd",
+];
+
+const AES128_SHA1: &[&str] = &[
+    "aes128-cts-hmac-sha1-96",
+    "aes128",
+    "aes128-cts",
+    "aes128-sha1",
+];
+
+const AES256_SHA1: &[&str] = &[
+    "aes256-cts-hmac-sha1-96",
+    "aes256",
+    "aes256-cts",
+    "aes256-sha1",
+];
+
+const AES128_SHA2: &[&str] = &["aes128-cts-hmac-sha256-128", "aes128-sha2"];
+
+const AES256_SHA2: &[&str] = &["aes256-cts-hmac-sha384-192", "aes256-sha2"];
+
+const RC4: &[&str] = &["arcfour-hmac", "rc4", "rc4-hmac", "arcfour-hmac-md5"];
+
+const CAMELLIA128: &[&str] = &["camellia128-cts-cmac", "camellia128", "camellia128-cts"];
+
+const CAMELLIA256: &[&str] = &["camellia256-cts-cmac", "camellia256", "camellia256-cts"];
+
 // Returns the row of an enctype.
 #[tactic(auto, unfolding(crate::specs::Etype::etype_table))]
 fn row_of(etype: u16) -> Row
@@ -43,61 +74,14 @@ fn row_of(etype: u16) -> Row
 {
     match etype {
         1 | 2 | 3 | 4 | 6 | 8 | 24 => row_with(&[], None, true),
-        16 => row_with(
-            &[
-                "des3-cbc-sha1",
-                "des3",
-                "des3-hmac-sha1",
-                "des3-cbc-sha1-kd",
-            ],
-            Some(24),
-            true,
-        ),
-        17 => row_with(
-            &[
-                "aes128-cts-hmac-sha1-96",
-                "aes128",
-                "aes128-cts",
-                "aes128-sha1",
-            ],
-            Some(16),
-            false,
-        ),
-        18 => row_with(
-            &[
-                "aes256-cts-hmac-sha1-96",
-                "aes256",
-                "aes256-cts",
-                "aes256-sha1",
-            ],
-            Some(32),
-            false,
-        ),
-        19 => row_with(
-            &["aes128-cts-hmac-sha256-128", "aes128-sha2"],
-            Some(16),
-            false,
-        ),
-        20 => row_with(
-            &["aes256-cts-hmac-sha384-192", "aes256-sha2"],
-            Some(32),
-            false,
-        ),
-        23 => row_with(
-            &["arcfour-hmac", "rc4", "rc4-hmac", "arcfour-hmac-md5"],
-            Some(16),
-            true,
-        ),
-        25 => row_with(
-            &["camellia128-cts-cmac", "camellia128", "camellia128-cts"],
-            Some(16),
-            false,
-        ),
-        26 => row_with(
-            &["camellia256-cts-cmac", "camellia256", "camellia256-cts"],
-            Some(32),
-            false,
-        ),
+        16 => row_with(DES3, Some(24), true),
+        17 => row_with(AES128_SHA1, Some(16), false),
+        18 => row_with(AES256_SHA1, Some(32), false),
+        19 => row_with(AES128_SHA2, Some(16), false),
+        20 => row_with(AES256_SHA2, Some(32), false),
+        23 => row_with(RC4, Some(16), true),
+        25 => row_with(CAMELLIA128, Some(16), false),
+        26 => row_with(CAMELLIA256, Some(32), false),
         _ => row_with(&[], None, false),
     }
 }
