@@ -3,6 +3,7 @@
 import os
 
 from makers.images import PA_TYPE, TICKET, TWO, cache
+from peers.corpus import FOLDER, files
 from words.phrases import BEGINS_AS_CACHE, BEGINS_AS_KEYTAB, CAUSES, LARGE, NOT_READ, SHORT
 
 # What is read, and what is refused, in the words of the program.
@@ -24,6 +25,40 @@ for load, *paths in ((Keytab.load, "none", "", "FILE:", b"folder", "k/none", "ci
     for path in paths:
         print(raised_by(lambda: load(path)))
 print(sorted(os.listdir()))
+"""
+
+# The files of other programs: how many there are, and those of which a walk gives other entries or tickets than klist
+# prints, or ends elsewhere.
+WALKS = f"FOLDER = {FOLDER!r}" + """
+import json, subprocess
+
+def printed(it):
+    if isinstance(it, Entry):
+        return {"place": it.place, "principal": it.principal, "kvno": it.kvno, "etype": it.enctype,
+                "timestamp": it.timestamp, "key_hex": it.key.hex()}
+    if it.is_config:
+        return {"place": it.place, "value": it.ticket.decode()}
+    names = ("place", "client", "server", "authtime", "starttime", "endtime", "renew_till", "is_skey")
+    return {**{name: getattr(it, name) for name in names}, "flags_value": it.flags, "etype": it.enctype,
+            "ticket_length": len(it.ticket)}
+
+def is_listed(store, line):
+    if isinstance(store, str) or not line:
+        return isinstance(store, str) and not line
+    listed, walked = json.loads(line), []
+    rows = [row for name in ("entries", "config", "tickets") for row in listed.get(name, [])]
+    is_cut = raised_by(lambda: walked.extend(map(printed, store))) is not None
+    fault = listed["fault"] and (listed["fault"]["kind"], listed["fault"]["place"])
+    return (len(walked), store.fault, is_cut) == (len(rows), fault, fault is not None) and all(
+        mine.items() <= row.items() for mine, row in zip(walked, sorted(rows, key=lambda row: row["place"])))
+
+for kind, folder, option in ((Keytab, "keytab", "-kK"), (Cache, "ccache", "-c")):
+    paths, others = [it for it in Path(FOLDER, folder).iterdir() if it.suffix != ".txt"], []
+    for path in paths:
+        store = raised_by(lambda: kind.open(path.read_bytes()))
+        line = subprocess.run((os.environ["KRBFILE"], "klist", option, "--json", path), capture_output=True).stdout
+        others += [] if is_listed(store, line) else [path.name]
+    print(len(paths), others)
 """
 
 # The names of the environment, an empty one, and the usual ones. Only a cache's may have the type `DIR::`.
@@ -162,6 +197,7 @@ SCRIPTS = (
         f"{NO_ENTRY} 'DIR:k' {NO_FILE}: a collection; give one of its caches, DIR::FILE", f"{NO_ENTRY} 'C:k' {NO_FILE}",
         "['c', 'circle', 'folder', 'k', 'large', 'short']",
     ]),
+    ("files of other programs", WALKS, b"", [f"{len(files(kind))} []" for kind in ("keytab", "ccache")]),
     ("default names", DEFAULTS, cache(TICKET, PA_TYPE), [
         *3 * ["True"], *2 * ["2"], f"/tmp/krb5cc_{os.getuid()} /etc/krb5.keytab",
     ]),
