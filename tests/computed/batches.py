@@ -8,7 +8,7 @@ from collections.abc import Iterable
 from concurrent.futures import ThreadPoolExecutor
 from pathlib import Path
 
-from computed.terms import NotComputed, row_of
+from computed.terms import NotComputed, Words, row_of, spellings
 from proving import compiler
 from runs.harness import Case, Report
 from runs.random_runs import keep
@@ -33,7 +33,9 @@ pub fn computes() -> u8
 """
 
 REFUSED = re.compile(r"\./proofs/\w+\.antt:\S+ error: `row_(\d+)`: (.*)")  # a refusal of a row, with its first line
-NOT_COMPUTED = (2, 3, 4)  # the statuses of bad command lines, and of runs in which a call failed
+FAILED = (3, 4)  # the statuses of runs in which a call failed
+# The options of which no run is computed, and why.
+NEVER_COMPUTED: dict[str, str] = {}
 
 
 def days_of(case: Case) -> set[int]:
@@ -43,8 +45,8 @@ def days_of(case: Case) -> set[int]:
 
 def row_within(case: Case, days: set[int]) -> str:
     """Returns the theorem of a run that is small enough, and prints few days that others do not."""
-    if case.wanted.status in NOT_COMPUTED:
-        raise NotComputed("a status of 2, 3 or 4")
+    if case.wanted.status in FAILED:
+        raise NotComputed("a status of 3 or 4")
     if case.size() + len(case.wanted.out) + sum(map(len, (case.files_after or {}).values())) > MOST:
         raise NotComputed(f"more than {MOST:,} bytes")
     if len(days | days_of(case)) > DAYS:
@@ -103,9 +105,20 @@ def refusals(rows: dict[int, tuple[Case, str]], are_sources: bool) -> dict[int, 
     return found
 
 
-def compare(report: Report, seen: list[Case], are_sources: bool, jobs: int) -> None:
-    """Compares runs with the definitions, some at a time."""
+def check_options(report: Report, cases: Iterable[Case]) -> None:
+    """Reports the options of help of which no run is computed, unless it is said why."""
+    computed = {option for case in cases for option in Words(case).spelled()}
+    known = {f"{command} --{name}" for command, spelling in spellings().items() for name in spelling.options}
+    report.check("computed: each option", [f"{option} is in no run" for option in sorted(
+        known - computed - {*NEVER_COMPUTED})])
+    report.check("computed: what is not", [f"{option} is in a run" for option in sorted({*NEVER_COMPUTED} & computed)])
+
+
+def compare(report: Report, seen: list[Case], are_sources: bool, jobs: int, is_whole: bool = False) -> None:
+    """Compares runs with the definitions, some at a time. Whole tests have a run of each option."""
     rows = rows_of(seen)
+    if is_whole:
+        check_options(report, (case for case, _ in rows.values()))
     print(f"{len(rows)} runs are compared with the definitions", flush=True)
     parts = [dict(part) for each in range(jobs) if (part := list(rows.items())[each::jobs])]
     with ThreadPoolExecutor(jobs) as pool:

@@ -1,45 +1,63 @@
 """Runs as terms of the definitions in crates/samples/proofs/Runs.antt."""
 
+import re
+from dataclasses import dataclass
+from functools import cache
 from getopt import GetoptError, gnu_getopt
+from pathlib import Path
 
-from runs.harness import EXPLAIN, Case
+from runs.harness import EXPLAIN, TOP, Case
 from theorems.antt import bytes_of_digits, listed, proof_of, text
 
-# The letters of each command's options, each with its long name; one with a colon has a value.
-KEPT = {"n": "dry-run", "p:": "principal", "k:": "kvno", "e:": "enctype"}
-LETTERS = {
-    "klist": {"k": "keytab", "c": "cache", "t": "times", "e": "enctypes", "K": "keys", "f": "flags", "C": "config",
-              "l": "list", "s": "silent"},
-    "show": {"k": "keytab"}, "ktmatch": {"q": "quiet", "H": "with-filename", "p:": "principal"},
-    "ktcheck": {"q": "quiet", "H": "with-filename"}, "ktremove": KEPT, "ktcopy": KEPT, "ktdiff": KEPT,
-    "hold": {"k": "keytab"},
-    "ccremove": {"n": "dry-run", "p:": "service"}, "ktfind": {}, "ktedit": {}, "ccedit": {}, "ktutil": {},
-}
-LONG = ("json", "for=", "v1-big", "in-place", "allow=", "older=", "want=", "age=", "as=", "replace",
-        "all-services", "expired")
-
-# The names of the operands; the last one is for all that follow.
-OPERANDS = {"ktfind": ("FILE", "KVNO", "ETYPE", "NAME"), "ktmatch": ("KEYTAB", "CACHE"), "ktcopy": ("FROM", "TO"),
-            "ktdiff": ("A", "B"), "ktutil": ()}
+# A word of a command, as its help has it: its kind, its name, and its letter, or the constant that is one.
+WORD = re.compile(r"Word::(\w+)\(\s*\"([\w-]+)\"(?:,\s*'(\w)')?|(?:^ *|, )([A-Z]\w+)(?=,|$)", re.M)
+CONSTANT = re.compile(r"^pub const (\w+): Word = (.*?);$", re.M | re.S)
+COMMAND = re.compile(r'^pub const \w+: CommandWords = .*?^    name: "(\w+)".*?^    words: &\[(.*?)\],$', re.M | re.S)
 
 # What a definition is given before the files, which have an input after them, if that is not only whether messages are
 # explained; klist's is another by its other options.
-GIVEN = {"ktcheck": ("explains", "mode", "clock"), "klist_silent": ("clock",),
-         **dict.fromkeys(("show", "ktremove", "ccremove", "ktutil", "klist_overview"), ("explains", "clock"))}
+GIVEN = {"ktcheck": ("explains", "mode", "clock"),
+         **dict.fromkeys(("show", "ktremove", "ccremove", "ktutil", "klist_overview", "klist_silent"),
+                         ("explains", "clock"))}
 READING = ("ktedit", "ccedit", "ktutil", "hold")
 OTHERS = {"list": "klist_overview", "silent": "klist_silent"}
 TIMED = {"show", "list", "silent", "age", "older", "expired"}  # the command and the options that ask for the time
 ADDING = (b"add_entry", b"addent")  # the lines of ktutil that do
+BAD_LINE = 2  # the status of a line with a mistake, which asks for nothing
 
 
 class NotComputed(Exception):
     """The reason why a run is none that the definitions compute."""
 
 
-def known(command: str) -> set[str]:
-    """Returns the options of a command that are computed, as help has them."""
-    letters = LETTERS.get(command, {})
-    return {*(f"-{letter[0]}" for letter in letters), *(f"--{name.rstrip('=')}" for name in (*LONG, *letters.values()))}
+@dataclass(frozen=True)
+class Spelling:
+    """How a command's line is spelled: its options, by their long names, each with its letter, or none, and whether it
+    has a value; the names of its operands, and whether the last one is for all that follow."""
+
+    options: dict[str, tuple[str, bool]]
+    operands: tuple[str, ...]
+    is_repeated: bool
+
+    @property
+    def words(self) -> set[str]:
+        """All ways to spell its options."""
+        return {*(f"--{name}" for name in self.options), *(f"-{each}" for each, _ in self.options.values() if each)}
+
+
+@cache
+def spellings() -> dict[str, Spelling]:
+    """Returns how lines are spelled, by command: help is made of the same words."""
+    text = "\n".join(path.read_text("utf-8") for path in sorted(Path(TOP, "crates").glob("krb_*/src/**/*.rt")))
+    constants = {name: WORD.search(value).groups() for name, value in CONSTANT.findall(text)}
+    found = {}
+    for command, listed_words in COMMAND.findall(text):
+        words = [constants[each[3]] if each[3] else each for each in WORD.findall(listed_words)]
+        operands = [(kind, name) for kind, name, *_ in words if "Operand" in kind]
+        options = {name: (letter or "", "Valued" in kind) for kind, name, letter, _ in words if "Operand" not in kind}
+        found[command] = Spelling(options, tuple(name for _, name in operands), "Operands" in "".join(
+            kind for kind, _ in operands))
+    return found
 
 
 def pairs(items: list[tuple[str, str]]) -> str:
@@ -48,32 +66,50 @@ def pairs(items: list[tuple[str, str]]) -> str:
 
 
 class Words:
-    """The words of a command line: its flags, and the values of its options and operands, by name."""
+    """The words of a command line: its flags, the values of its options and operands, by name, and its long names."""
 
     def __init__(self, case: Case) -> None:
         words = [word.decode("latin-1") if isinstance(word, bytes) else word for word in case.words]
         end = words.index("--") if "--" in words else len(words)
         self.explains = EXPLAIN in words[:end]
         self.command, *rest = [word for at, word in enumerate(words) if word != EXPLAIN or at > end]
-        if self.command not in LETTERS:
-            raise NotComputed("help or the version")
-        letters = LETTERS[self.command]
-        names = [name + "=" * (":" in letter) for letter, name in letters.items()]
-        try:
-            options, operands = gnu_getopt(rest, "".join(letters), [*LONG, *names])
-        except GetoptError as error:
-            raise NotComputed("help, or an option that the command has not") from error
-        long = {f"-{letter[0]}": name for letter, name in letters.items()}
-        those = [(long.get(word, word[2:]), value) for word, value in options]
-        takes = {name[:-1] for name in (*LONG, *names) if "=" in name}
-        self.flags = [name for name, _ in those if name not in takes]
-        operand = OPERANDS.get(self.command, ("FILE",))
+        if self.command not in spellings():
+            raise NotComputed("help or the version, or no command")
+        self.spelling = spellings()[self.command]
+        options, operands = self.parts_of(rest)
+        takes = {name for name, (_, takes) in self.spelling.options.items() if takes}
+        self.flags = [name for name, _ in options if name not in takes]
+        names = self.spelling.operands
+        self.values = [each for each in options if each[0] in takes]
+        self.values += [(names[min(nth, len(names) - 1)], it) for nth, it in enumerate(operands)]
+        before = rest[:rest.index("--")] if "--" in rest else rest
+        self.long = [word.partition("=")[0] for word in before if word.startswith("--")]
         named = operands[:1] if self.command == "ktfind" else operands
         # The definitions have a file for each name, and do not know paths.
-        if len(operands) < len(operand) or any("/" in it for it in named) or b" ./" in case.stdin:
-            raise NotComputed("a path, or a default name")
-        self.values = [each for each in those if each[0] in takes]
-        self.values += [(operand[min(nth, len(operand) - 1)], it) for nth, it in enumerate(operands)]
+        if any("/" in it for it in named) or b" ./" in case.stdin:
+            raise NotComputed("a path")
+
+    def parts_of(self, words: list[str]) -> tuple[list[tuple[str, str]], list[str]]:
+        """Returns the options of a line, by their long names, each with its value, and its operands."""
+        options, names = self.spelling.options, self.spelling.operands
+        letters = {f"-{letter}": name for name, (letter, _) in options.items() if letter}
+        try:
+            found, operands = gnu_getopt(words, "".join(f"{word[1]}{':' * options[name][1]}" for word, name in
+                                                        letters.items()),
+                                         [name + "=" * takes for name, (_, takes) in options.items()])
+        except GetoptError as error:
+            raise NotComputed("help, or an option that the command has not, or its value") from error
+        long = {word.partition("=")[0] for word in words if word.startswith("--")} - {"--"}
+        if any(word.startswith("--") and word not in long for word, _ in found):
+            raise NotComputed("a short form of an option")
+        if len(operands) < len(names) or len(operands) > len(names) and not self.spelling.is_repeated:
+            raise NotComputed("a default name, or a mistake in the number of operands")
+        return [(letters.get(word, word[2:]), value) for word, value in found], operands
+
+    def spelled(self) -> set[str]:
+        """Returns the options that it has, after its command."""
+        return {f"{self.command} --{name}" for name in (*self.flags, *(name for name, _ in self.values))
+                if name in self.spelling.options}
 
 
 def term_of(case: Case) -> str:
@@ -81,7 +117,7 @@ def term_of(case: Case) -> str:
     words = Words(case)
     is_timed = TIMED & {words.command, *words.flags, *(name for name, _ in words.values)} or (
         words.command == "ktutil" and any(word in case.stdin for word in ADDING))
-    if case.clock is None and is_timed:
+    if case.clock is None and is_timed and case.wanted.status != BAD_LINE:
         raise NotComputed("the system's clock")
     command = next((it for flag, it in OTHERS.items() if flag in words.flags), words.command)
     files = pairs([(name, bytes_of_digits(image)) for name, image in case.files.items()])
@@ -90,7 +126,8 @@ def term_of(case: Case) -> str:
     given += [f"({bytes_of_digits(case.stdin)})"] * (command in READING)
     flags = listed([text(it.encode()) for it in words.flags])
     values = pairs([(name, text(value.encode())) for name, value in words.values])
-    return " ".join([*given, f"(words ({flags}) ({values}))"])
+    long = listed([text(it.encode()) for it in words.long])
+    return " ".join([*given, f"(words ({flags}) ({values}) ({long}))"])
 
 
 def images(names: list[str], files: dict[str, bytes]) -> str:

@@ -5,7 +5,7 @@ import re
 import shutil
 from collections.abc import Iterator
 
-from computed.terms import known
+from computed.terms import spellings
 from pages.documents import sources
 from runs.commands import COMMANDS
 from runs.harness import TOP, Report, run
@@ -27,8 +27,8 @@ def of_manual(program: str) -> Iterator[tuple[str, set[object]]]:
     shown = re.findall(r"^  ([a-z]+) +(.*)$", helped(program, "ktcheck").partition("\nStatuses:")[0], re.MULTILINE)
     yield "findings", found ^ {*phrases.FINDINGS.items()} | found ^ {*shown}
     options = {option for command in ("", *COMMANDS) for option in offered(program, command)[1]}
-    yield "what is computed", {f"{command} {each}" for command in COMMANDS
-                               for each in offered(program, command)[1] - known(command) - {"-h", "--help"}}
+    yield "the options of computed runs", {f"{command} {each}" for command in COMMANDS for each in (
+        offered(program, command)[1] - {"-h", "--help"}) ^ spellings()[command].words}
     yield "options", {each for each in options if not re.search(rf"\bFl {each[1:]}\b", page)}
 
 

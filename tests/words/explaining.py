@@ -50,6 +50,8 @@ class Explained:
         """Runs it on a pipe and with explanations: everything else is the same."""
         if report.leaves_out(len(self.stdin) + sum(map(len, self.files.values()))):
             return
+        if self.status == 2:
+            report.seen.append(self.as_case())
         out = self.out
         for way, (make, explains) in WAYS.items():
             with folder_of(self.files) as folder:

@@ -2,6 +2,7 @@
 use Rattle.std.specs.Prelude.{unwrap_or, nat_eq, ◌≡◌, ℕ, List, [], ◌∷◌, codes, map, length, nat_lt, slice_get, ◌==◌, is_some, Bool, true, false, if◌then◌else◌, Option, None, Some, Result, Ok, Err, string_bytes}
 use Rattle.std.specs.Bool.{then_some}
 use Rattle.std.specs.List.{list_any}
+use Rattle.std.specs.Result.{result_err}
 use Rattle.krb_files.specs.declared.files.Files.{Ghosts}
 use Rattle.krb_audit.specs.Selection.{needs_clock}
 use Rattle.krb_commands.specs.declared.action.Action.{Action}
@@ -22,23 +23,24 @@ use Rattle.krb_driver.specs.declared.verdict.Verdict.TheVariants.{Well}
 use Rattle.krb_driver.specs.declared.command.World.{World}
 use Rattle.krb_driver.specs.FileNames.{IsNamed, bare_name, is_other_type}
 use Rattle.krb_editors.specs.Ccedit.{ccedit_fairly, ccedit_plan}
-use Rattle.krb_editors.specs.Ccremove.{SpellsTickets, ccremove_plan, ended_by, ticket_mistake}
+use Rattle.krb_editors.specs.Ccremove.{ccremove_plan, ended_by, ticket_removal_of}
 use Rattle.krb_driver.specs.Commands.{Prints, Runs, always, any}
 use Rattle.krb_driver.specs.Loading.{result_map}
-use Rattle.krb_readers.specs.Klist.{file_kind, list_mistake, list_options, ListsAll, RunsTicketCheck, check_mistake as ticket_check_mistake, check_of}
-use Rattle.krb_readers.specs.Overview.{SurveysAll, overview_mistake}
+use Rattle.krb_readers.specs.Klist.{file_kind, ListsAll, RunsTicketCheck, listing_of, ticket_check_of}
+use Rattle.krb_readers.specs.Overview.{SurveysAll, overview_of}
 use Rattle.krb_readers.specs.declared.klist.ticket_check.TicketCheck.{TicketCheck}
-use Rattle.krb_readers.specs.Ktcheck.{SpellsCheck, check_mistake, ChecksAll}
-use Rattle.krb_readers.specs.Ktmatch.{MatchesAll, SpellsMatch, match_mistake}
-use Rattle.krb_readers.specs.Show.{ShowsAll, show_mistake, show_options}
-use Rattle.krb_editors.specs.Hold.{RunsHold, file_kind as held_kind, hold_kind, hold_mistake}
+use Rattle.krb_readers.specs.Ktcheck.{ChecksAll}
+use Rattle.krb_readers.specs.KtcheckWords.{keytab_check_of}
+use Rattle.krb_readers.specs.Ktmatch.{MatchesAll}
+use Rattle.krb_readers.specs.KtmatchWords.{ticket_match_of}
+use Rattle.krb_readers.specs.Show.{ShowsAll, show_of}
+use Rattle.krb_editors.specs.Hold.{RunsHold, file_kind as held_kind, hold_of}
 use Rattle.krb_editors.specs.Ktedit.{ktedit_fairly, ktedit_plan}
-use Rattle.krb_readers.specs.Ktfind.{SpellsEntry, find_mistake, ktfind_plan}
-use Rattle.krb_editors.specs.Ktcopy.{SpellsCopy, copy_mistake, ktcopy_plan}
-use Rattle.krb_editors.specs.Ktdiff.{SpellsDiff, ktdiff_plan}
-use Rattle.krb_editors.specs.Selecting.{bad_criteria}
+use Rattle.krb_readers.specs.Ktfind.{entry_sought_of, ktfind_plan}
+use Rattle.krb_editors.specs.Ktcopy.{copy_of, ktcopy_plan}
+use Rattle.krb_editors.specs.Ktdiff.{comparison_of, ktdiff_plan}
 use Rattle.krb_editors.specs.Removing.{RemovesWith}
-use Rattle.krb_editors.specs.Ktremove.{SpellsRemoval, ktremove_plan, needed_time, remove_mistake}
+use Rattle.krb_editors.specs.Ktremove.{ktremove_plan, needed_time, removal_of}
 use Rattle.krb_ktutil.specs.KtutilTalk.{RunsKtutil}
 use Rattle.krb_driver.specs.Mistakes.{Matched, v1_order, MistakeParts, word_status, word_text}
 use Rattle.krb_driver.specs.Runs.{Run, Writes, ends_by}
@@ -74,9 +76,9 @@ AreChanged kind words = AreFilesBy LikePrincipal kind words (codes "FILE")
 
 -- the action is the one that the words of klist ask for: with `-l` an overview, with `-s` a check, otherwise a listing
 abbrev pub AsksKlist : Bool → Bool → Matched → Action → Type 0
-AsksKlist true silent words (Overview json names) = (json ≡ words.flag (codes "json")) × AreFiles Cache words names.items
-AsksKlist false true words (CheckTicket check names) = (check ≡ check_of words) × AreFiles Cache words names.items
-AsksKlist false false words (Klist options names) = (options ≡ list_options words) × AreFiles (file_kind options.kind) words names.items
+AsksKlist true silent words (Overview json names) = (overview_of words ≡ Ok json) × AreFiles Cache words names.items
+AsksKlist false true words (CheckTicket check names) = (ticket_check_of words ≡ Ok check) × AreFiles Cache words names.items
+AsksKlist false false words (Klist options names) = (listing_of words ≡ Ok options) × AreFiles (file_kind options.kind) words names.items
 AsksKlist list silent words action = ⊥
 
 -- a file is the keytab, or the cache, that the word of that operand names, and is to be saved in place if the words ask for that
@@ -87,37 +89,37 @@ IsEdited kind words operand file = IsNamed kind (words.operand operand) Word fil
 abbrev pub Asks : CommandName → Matched → Action → Type 0
 Asks name.Klist words action = AsksKlist (words.flag (codes "list")) (words.flag (codes "silent")) words action
 Asks name.Ktedit words (Ktedit order file) = (order ≡ v1_order words) × IsEdited Keytab words (codes "FILE") file
-Asks name.Ktfind words (Ktfind options file) = SpellsEntry words options × IsNamed Keytab (words.operand (codes "FILE")) Word file
-Asks name.Ktremove words (Ktremove options names) = SpellsRemoval words options × AreChanged Keytab words names.items
-Asks name.Ktcopy words (Ktcopy options from to) = SpellsCopy words options × IsNamed Keytab (words.operand (codes "FROM")) Word from × IsEdited Keytab words (codes "TO") to
-Asks name.Ktdiff words (Ktdiff options ours others) = SpellsDiff words options × IsNamed Keytab (words.operand (codes "A")) Word ours × IsNamed Keytab (words.operand (codes "B")) Word others
-Asks name.Ktcheck words (Ktcheck options names) = SpellsCheck words options × AreFiles Keytab words names.items
-Asks name.Show words (Show options names) = (options ≡ show_options words) × AreFiles Either words names.items
-Asks name.Ktmatch words (Ktmatch options keytab names) = SpellsMatch words options × IsNamed Keytab (words.operand (codes "KEYTAB")) Word keytab × AreFilesBy Word Cache words (codes "CACHE") names.items
+Asks name.Ktfind words (Ktfind options file) = (entry_sought_of words ≡ Ok options) × IsNamed Keytab (words.operand (codes "FILE")) Word file
+Asks name.Ktremove words (Ktremove options names) = (removal_of words ≡ Ok options) × AreChanged Keytab words names.items
+Asks name.Ktcopy words (Ktcopy options from to) = (copy_of words ≡ Ok options) × IsNamed Keytab (words.operand (codes "FROM")) Word from × IsEdited Keytab words (codes "TO") to
+Asks name.Ktdiff words (Ktdiff options ours others) = (comparison_of words ≡ Ok options) × IsNamed Keytab (words.operand (codes "A")) Word ours × IsNamed Keytab (words.operand (codes "B")) Word others
+Asks name.Ktcheck words (Ktcheck options names) = (keytab_check_of words ≡ Ok options) × AreFiles Keytab words names.items
+Asks name.Show words (Show options names) = (show_of words ≡ Ok options) × AreFiles Either words names.items
+Asks name.Ktmatch words (Ktmatch options keytab names) = (ticket_match_of words ≡ Ok options) × IsNamed Keytab (words.operand (codes "KEYTAB")) Word keytab × AreFilesBy Word Cache words (codes "CACHE") names.items
 Asks name.Ccedit words (Ccedit file) = IsEdited Cache words (codes "FILE") file
-Asks name.Ccremove words (Ccremove options names) = SpellsTickets words options × AreChanged Cache words names.items
+Asks name.Ccremove words (Ccremove options names) = (ticket_removal_of words ≡ Ok options) × AreChanged Cache words names.items
 Asks name.Ktutil words (Ktutil options) = (options.v1_order ≡ v1_order words) × (options.in_place ≡ words.flag (codes "in-place"))
-Asks name.Hold words (Hold kind file) = (kind ≡ hold_kind words) × IsEdited (held_kind kind) words (codes "FILE") file
+Asks name.Hold words (Hold kind file) = (hold_of words ≡ Ok kind) × IsEdited (held_kind kind) words (codes "FILE") file
 Asks command words action = ⊥
 
 -- the first mistake in the words of klist, with `-l`, with `-s` or otherwise
 abbrev pub klist_mistake : Bool → Bool → Matched → Option MistakeParts
-klist_mistake true silent = overview_mistake
-klist_mistake false true = ticket_check_mistake
-klist_mistake false false = list_mistake
+klist_mistake true silent words = result_err (overview_of words)
+klist_mistake false true words = result_err (ticket_check_of words)
+klist_mistake false false words = result_err (listing_of words)
 
 -- the first mistake in the words of that command
 abbrev pub line_mistake : CommandName → Matched → Option MistakeParts
 line_mistake name.Klist words = klist_mistake (words.flag (codes "list")) (words.flag (codes "silent")) words
-line_mistake name.Ktfind words = find_mistake words
-line_mistake name.Ktremove words = remove_mistake words
-line_mistake name.Ktcopy words = copy_mistake words
-line_mistake name.Ktdiff words = bad_criteria words
-line_mistake name.Ktcheck words = check_mistake words
-line_mistake name.Show words = show_mistake words
-line_mistake name.Ktmatch words = match_mistake words
-line_mistake name.Ccremove words = ticket_mistake words
-line_mistake name.Hold words = hold_mistake words
+line_mistake name.Ktfind words = result_err (entry_sought_of words)
+line_mistake name.Ktremove words = result_err (removal_of words)
+line_mistake name.Ktcopy words = result_err (copy_of words)
+line_mistake name.Ktdiff words = result_err (comparison_of words)
+line_mistake name.Ktcheck words = result_err (keytab_check_of words)
+line_mistake name.Show words = result_err (show_of words)
+line_mistake name.Ktmatch words = result_err (ticket_match_of words)
+line_mistake name.Ccremove words = result_err (ticket_removal_of words)
+line_mistake name.Hold words = result_err (hold_of words)
 line_mistake command words = None
 
 -- what a line needs beside its files: nothing

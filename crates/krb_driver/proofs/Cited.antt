@@ -26,5 +26,5 @@ pub use Rattle.krb_driver.specs.declared.verdict.Verdict.{Verdict}
 pub use Rattle.krb_driver.specs.FileNames.{name_byte, stripped}
 pub use Rattle.krb_walk.specs.ReplyContent.{content_of}
 pub use Rattle.krb_driver.specs.Several.{first_round, Round, RunsFile, RunsOver, is_last}
-pub use Rattle.krb_driver.specs.Mistakes.{ArePrintedNames, bad_name, first_mistake, AreSpelled, bad_etype, word_text}
+pub use Rattle.krb_driver.specs.Mistakes.{word_text}
 pub use Rattle.krb_driver.specs.declared.command.RunEnd.{RunEnd}

@@ -10,6 +10,7 @@ pub mod EndingWords
 pub mod Runs
 pub mod Mistakes
 pub mod Loading
+pub mod Spelled
 pub mod Either
 pub mod Effects
 pub mod Commands

@@ -1,9 +1,8 @@
 -- What a command line matched, and the messages for one that was not read.
 use Rattle.std.specs.Borrow.{Bor}
-use Rattle.std.specs.Prelude.{◌≡◌, ℕ, List, [], ◌++◌, Bool, Option, None, Some, option_map, codes, Result, Ok, Err, IfOk, if◌then◌else◌, is_none, length, map, nat_lt, option_and_then, slice_get, Vec}
-use Rattle.krb_wire.specs.declared.memory.NoMemory.{NoMemory}
+use Rattle.std.specs.Prelude.{◌≡◌, ℕ, List, [], ◌++◌, Bool, Option, None, Some, option_map, codes, Result, Ok, Err, if◌then◌else◌, length, nat_lt, slice_get}
 use Rattle.krb_wire.specs.declared.name_fault.NameFault.{NameFault}
-use Rattle.krb_wire.specs.NameOf.{name_fault_phrase, name_of}
+use Rattle.krb_wire.specs.NameOf.{name_fault_phrase}
 use Rattle.krb_driver.specs.declared.command_line.mistake.Mistake.{Mistake}
 use Rattle.krb_driver.specs.declared.command_line.mistake.Phrase.{Phrase}
 use Rattle.krb_driver.specs.declared.command_line.mistake.Phrase.TheVariants as phrase
@@ -13,15 +12,8 @@ use Rattle.krb_driver.specs.declared.command_line.mistake.WordFault.{WordFault}
 use Rattle.krb_driver.specs.declared.command_line.mistake.WordFault.TheVariants as word
 use Rattle.krb_driver.specs.Messages.{message, quoted_word, shown_word}
 use Rattle.krb_driver.specs.Runs.{words_if}
-use Rattle.std.specs.List.{filter_map}
-use Rattle.std.specs.Result.{result_err, result_ok}
 use Rattle.krb_wire.specs.declared.format.Order.{Order}
 use Rattle.krb_wire.specs.declared.format.Order.TheVariants.{Big, Little}
-use Rattle.krb_wire.specs.declared.principal.Principal.{Principal}
-use Rattle.krb_wire.specs.Names.{name_text}
-use Rattle.krb_wire.specs.Reading.{principal_parts}
-use Rattle.krb_text.specs.Etype.{etype_in}
-use Rattle.krb_text.specs.Numbers.{seconds_in}
 
 -- the text before each mistake
 abbrev pub mistake_head : List ℕ
@@ -156,20 +148,10 @@ abbrev pub Reads : {X : Type 0} → Option MistakeParts → (X → Type 0) → R
 Reads found Writes (Ok x) = (found ≡ None) × Writes x
 Reads found Writes (Err fault) = IsOf found fault
 
--- words that take no memory have no mistake, and `Writes` holds of what they give; or the mistake is the first of theirs
-abbrev pub Spells : {X : Type 0} → Option MistakeParts → (X → Type 0) → Result X Mistake → Type 0
-Spells found Writes (Ok x) = (found ≡ None) × Writes x
-Spells found Writes (Err mistake) = found ≡ Some (mistake_parts mistake)
-
 -- words are refused for a mistake, if they have one
 abbrev pub Refuses : Option MistakeParts → Result (Unit {0}) Mistake → Type 0
 Refuses found (Ok done) = found ≡ None
 Refuses found (Err mistake) = found ≡ Some (mistake_parts mistake)
-
--- words have no mistake, and `Writes` holds of what they give unless memory ran out; or the mistake is the first of theirs
-abbrev pub SpellsInMemory : {X : Type 0} → Option MistakeParts → (X → Type 0) → Result (Result X NoMemory) Mistake → Type 0
-SpellsInMemory found Writes (Ok x) = (found ≡ None) × IfOk x Writes
-SpellsInMemory found Writes (Err mistake) = found ≡ Some (mistake_parts mistake)
 
 -- like `IsOf`, and a bad line names that command
 abbrev pub IsRefusal : List ℕ → Option MistakeParts → WordFault → Type 0
@@ -200,49 +182,3 @@ first_value words name = slice_get (words.values name) 0
 -- an option is given twice
 abbrev pub twice : Matched → List ℕ → List ℕ → List ℕ → Option MistakeParts
 twice words name letter long = if nat_lt 1 (length (words.values name)) then Some (twice_given (typed words letter long)) else None
-
--- the first of the mistakes in some words
-abbrev pub first_mistake : (List ℕ → Option MistakeParts) → List (List ℕ) → Option MistakeParts
-first_mistake mistake words = slice_get (filter_map mistake words) 0
-
--- a value is the one that a word spells, and values are those that words spell
-abbrev pub IsSpelled : {X : Type 0} → (List ℕ → Option X) → List ℕ → X → Type 0
-IsSpelled spelled word value = spelled word ≡ Some value
-
-abbrev pub AreSpelled : {X A : Type 0} → (List ℕ → Option X) → List (List ℕ) → Vec X A → Type 0
-AreSpelled spelled words values = map spelled words ≡ map (λ value. Some value) values.items
-
--- ---- names
-
--- the mistake in a word that is not a principal name
-abbrev pub bad_name : List ℕ → Option MistakeParts
-bad_name word = option_map (faulty_name word) (result_err (name_of word None))
-
--- the name is the one that the word spells
-abbrev pub IsSpelledName : {A : Type 0} → List ℕ → Principal A → Type 0
-IsSpelledName word name = name_of word None ≡ Ok (principal_parts name)
-
--- the text that the name which a word spells prints as
-abbrev pub printed_name : List ℕ → Option (List ℕ)
-printed_name word = option_map name_text (result_ok (name_of word None))
-
--- the texts are those that the names which the words spell print as
-abbrev pub ArePrintedNames : {A : Type 0} → List (List ℕ) → Vec (Vec ℕ A) A → Type 0
-ArePrintedNames words names = map printed_name words ≡ map (λ name. Some name.items) names.items
-
--- ---- encryption types
-
--- the mistake in a word that is no encryption type
-abbrev pub bad_etype : List ℕ → Option MistakeParts
-bad_etype word = if is_none (etype_in word) then Some (no_etype word) else None
-
--- ---- times
-
--- the mistake in a word that is no time
-abbrev pub bad_seconds : Option (List ℕ) → Option MistakeParts
-bad_seconds None = None
-bad_seconds (Some word) = if is_none (seconds_in word) then Some (no_time word) else None
-
--- the seconds are those that the word spells, or there is neither
-abbrev pub AreSpelledSeconds : Option (List ℕ) → Option ℕ → Type 0
-AreSpelledSeconds word seconds = option_and_then seconds_in word ≡ seconds

@@ -1,13 +1,11 @@
 -- What ccremove does.
-use Rattle.std.specs.Prelude.{◌≡◌, ℕ, Bool, not, List, [], ◌++◌, ◌&&◌, ◌||◌, ◌==◌, map, length, codes, if◌then◌else◌, Option, None, Some, Result, Ok, Err}
+use Rattle.std.specs.Prelude.{ℕ, Bool, not, List, [], ◌++◌, ◌&&◌, ◌||◌, ◌==◌, map, length, codes, if◌then◌else◌, Option, None, Some, Result, Ok, Err}
 use Rattle.std.specs.List.{flat_map, list_any}
-use Rattle.std.specs.Vec.{vec_items}
 use Rattle.krb_walk.specs.Events.{cut_store}
 use Rattle.krb_ccache.specs.Changes.{without}
 use Rattle.krb_ccache.specs.Rewrite.{rewrite_result}
 use Rattle.krb_ccache.specs.Store.{CacheState, PlacedCredential, image_of, placed_credentials}
 use Rattle.krb_audit.specs.Tickets.{selected_tickets, names_ticket, removed_ticket_line}
-use Rattle.krb_editors.specs.declared.ccremove.TicketOptions.{TicketOptions}
 use Rattle.krb_driver.specs.declared.error.RunError.TheVariants.{ClockNotRead}
 use Rattle.krb_driver.specs.declared.verdict.FileKind.TheVariants.{Cache}
 use Rattle.krb_driver.specs.declared.verdict.Verdict.{Verdict}
@@ -15,16 +13,24 @@ use Rattle.krb_driver.specs.declared.verdict.Verdict.TheVariants.{Well, NothingT
 use Rattle.krb_driver.specs.declared.error.RunError.{RunError}
 use Rattle.krb_driver.specs.declared.file_name.FileName.{FileName}
 use Rattle.krb_driver.specs.Commands.{Ends, CommandPlan, Effect, Displays, holds, opens, saves_unless, text}
-use Rattle.krb_driver.specs.Mistakes.{ArePrintedNames, Matched, bad_name, first_mistake, MistakeParts, nothing_selects}
+use Rattle.krb_driver.specs.Mistakes.{Matched, MistakeParts, nothing_selects}
+use Rattle.krb_driver.specs.Spelled.{◌>>=◌, ◌>>◌, each, printed_name}
 use Rattle.krb_driver.specs.Loading.{writable_in}
 use Rattle.krb_driver.specs.Several.{label_of}
+
+-- what ccremove is asked for: tickets for these servers, or of any if there are none, of services alone, that have ended, and whether they are only listed
+pub record TicketRemoval : Type 0 where
+  pub servers : List (List ℕ)
+  pub all_services : Bool
+  pub expired : Bool
+  pub dry_run : Bool
 
 -- the time at or before which the selected tickets end: that of the clock, if only expired ones are selected
 abbrev pub clock_time : Option ℕ → Result (Option ℕ) RunError
 clock_time None = Err ClockNotRead
 clock_time (Some now) = Ok (Some now)
 
-abbrev pub ended_by : {A : Type 0} → TicketOptions A → Option ℕ → Result (Option ℕ) RunError
+abbrev pub ended_by : TicketRemoval → Option ℕ → Result (Option ℕ) RunError
 ended_by o now = if o.expired then clock_time now else Ok None
 
 -- the cache rewritten without the tickets at these places, so that their keys are not in the file any more
@@ -32,9 +38,9 @@ abbrev pub cache_after : CacheState → List ℕ → CacheState
 cache_after k places = cut_store (without k places) (rewrite_result (without k places))
 
 -- the verdict if no ticket is selected: no failure with `--expired`, if nothing else is asked for or some ticket is that; reported at the end of several files
-abbrev pub none_verdict : {A : Type 0} → Bool → TicketOptions A → Bool → Verdict
+abbrev pub none_verdict : Bool → TicketRemoval → Bool → Verdict
 none_verdict are_several o named =
-    if o.expired && (((length o.servers.items == 0) && not o.all_services) || named) then Well
+    if o.expired && (((length o.servers == 0) && not o.all_services) || named) then Well
     else (if are_several then Without else NothingToRemove Cache)
 
 -- the places of tickets
@@ -42,28 +48,27 @@ abbrev pub places : List PlacedCredential → List ℕ
 places xs = map (λ x. x.0) xs
 
 -- the tickets are removed, if there are any, and a line is printed for each
-abbrev pub removes : {A : Type 0} → TicketOptions A → Bool → List ℕ → CacheState → List PlacedCredential → Effect
+abbrev pub removes : TicketRemoval → Bool → List ℕ → CacheState → List PlacedCredential → Effect
 removes o are_several file k xs =
-    if length (places xs) == 0 then Displays file (text [] (none_verdict are_several o (list_any (λ x. names_ticket (map vec_items o.servers.items) o.all_services x.1) (placed_credentials k))))
+    if length (places xs) == 0 then Displays file (text [] (none_verdict are_several o (list_any (λ x. names_ticket o.servers o.all_services x.1) (placed_credentials k))))
     else saves_unless o.dry_run file (image_of (cache_after k (places xs))) (flat_map (λ x. label_of are_several file ++ removed_ticket_line x) xs) Well
 
 -- the file, one of several or not, is held, unless it is a dry run, and opened; the selected tickets of its cache are removed
-abbrev pub ccremove_plan : {A : Type 0} → TicketOptions A → Option ℕ → Bool → FileName → CommandPlan
+abbrev pub ccremove_plan : TicketRemoval → Option ℕ → Bool → FileName → CommandPlan
 ccremove_plan o ended are_several file =
-    holds (not o.dry_run) file (opens file writable_in (λ k. Ends (removes o are_several file.name.now k (selected_tickets (map vec_items o.servers.items) o.all_services ended k))))
+    holds (not o.dry_run) file (opens file writable_in (λ k. Ends (removes o are_several file.name.now k (selected_tickets o.servers o.all_services ended k))))
 
 -- ---- what the words ask for
 
--- the first mistake of the words
-abbrev pub ticket_mistake : Matched → Option MistakeParts
-ticket_mistake words =
+-- nothing selects tickets
+abbrev pub odd_tickets : Matched → Option MistakeParts
+odd_tickets words =
     if (length (words.values (codes "service")) == 0) && (not (words.flag (codes "all-services")) && not (words.flag (codes "expired")))
-    then Some (nothing_selects (codes "-p, --all-services or --expired"))
-    else first_mistake bad_name (words.values (codes "service"))
+    then Some (nothing_selects (codes "-p, --all-services or --expired")) else None
 
--- each option is what its own word spells
-pub record SpellsTickets {A : Type 0} (words : Matched) (options : TicketOptions A) : Type 0 where
-  pub servers : ArePrintedNames (words.values (codes "service")) options.servers
-  pub all_services : options.all_services ≡ words.flag (codes "all-services")
-  pub expired : options.expired ≡ words.flag (codes "expired")
-  pub dry_run : options.dry_run ≡ words.flag (codes "dry-run")
+-- what the words of ccremove ask for, or their first mistake
+abbrev pub ticket_removal_of : Matched → Result TicketRemoval MistakeParts
+ticket_removal_of words = do
+  odd_tickets words
+  servers ← each printed_name (words.values (codes "service"))
+  Ok (record { servers = servers; all_services = words.flag (codes "all-services"); expired = words.flag (codes "expired"); dry_run = words.flag (codes "dry-run") })

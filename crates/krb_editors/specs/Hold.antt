@@ -57,17 +57,16 @@ framed text = option_map (λ head. drop head text) (head_len text)
 
 -- ---- the words
 
--- the kind of file that the words ask for: a cache, unless `-k` is given
-abbrev pub hold_kind : Matched → HoldKind
-hold_kind words = if words.flag (codes "keytab") then Keytab (v1_order words) else Cache
+-- what the words of hold ask for: a keytab if `-k` is given, and otherwise a cache, with which `--v1-big` does not go
+abbrev pub hold_of : Matched → Result HoldKind MistakeParts
+hold_of words =
+    if words.flag (codes "keytab") then Ok (Keytab (v1_order words))
+    else (if words.flag (codes "v1-big") then Err (for_keytabs (codes "--v1-big")) else Ok Cache)
 
+-- the kind of file that is held
 abbrev pub file_kind : HoldKind → FileKind
 file_kind (Keytab order) = kind.Keytab
 file_kind Cache = kind.Cache
-
--- the mistake in the words: `--v1-big` is for keytabs
-abbrev pub hold_mistake : Matched → Option MistakeParts
-hold_mistake words = if words.flag (codes "keytab") then None else (if words.flag (codes "v1-big") then Some (for_keytabs (codes "--v1-big")) else None)
 
 -- ---- images
 

@@ -1,18 +1,15 @@
 -- What ktremove does.
-use Rattle.std.specs.Prelude.{◌≡◌, ℕ, Bool, true, false, not, List, [], ◌++◌, ◌&&◌, ◌||◌, map, nat_lt, length, ◌==◌, if◌then◌else◌, codes, Option, None, Some, ok_or, option_and_then, Result, Ok}
+use Rattle.std.specs.Prelude.{ℕ, Bool, true, false, not, List, [], ◌++◌, ◌&&◌, ◌||◌, map, nat_lt, length, ◌==◌, if◌then◌else◌, codes, Option, None, Some, ok_or, Result, Ok}
 use Rattle.std.specs.List.{flat_map, list_any}
-use Rattle.std.specs.Option.{option_or}
 use Rattle.std.specs.Str.{bytes_eq}
 use Rattle.krb_keytab.specs.Changes.{without}
 use Rattle.krb_keytab.specs.Find.{PlacedEntry, placed_entries}
 use Rattle.krb_keytab.specs.Store.{KeytabState, image_of}
 use Rattle.krb_keytab_text.specs.Listing.{removed_line}
-use Rattle.krb_text.specs.Numbers.{seconds_in}
+use Rattle.krb_wire.specs.declared.format.Order.{Order}
 use Rattle.krb_audit.specs.declared.selection.SelectedKvno.{SelectedKvno}
 use Rattle.krb_audit.specs.declared.selection.SelectedKvno.TheVariants.{Old}
-use Rattle.krb_audit.specs.declared.selection.Selection.{Selection}
-use Rattle.krb_audit.specs.Selection.{selected_in, is_named, needs_clock}
-use Rattle.krb_editors.specs.declared.ktremove.RemoveOptions.{RemoveOptions}
+use Rattle.krb_audit.specs.Selection.{SelectionParts, selected_in, is_named, needs_clock}
 use Rattle.krb_driver.specs.declared.error.RunError.TheVariants.{ClockNotRead}
 use Rattle.krb_driver.specs.declared.verdict.FileKind.TheVariants.{Keytab}
 use Rattle.krb_driver.specs.declared.verdict.Verdict.{Verdict}
@@ -20,10 +17,17 @@ use Rattle.krb_driver.specs.declared.verdict.Verdict.TheVariants.{Well, NothingT
 use Rattle.krb_driver.specs.declared.error.RunError.{RunError}
 use Rattle.krb_driver.specs.declared.file_name.FileName.{FileName}
 use Rattle.krb_driver.specs.Commands.{Ends, CommandPlan, Effect, Displays, holds, opens, saves_unless, text}
-use Rattle.krb_driver.specs.Mistakes.{Matched, bad_seconds, first_value, twice, v1_order, MistakeParts, nothing_selects, only_with}
+use Rattle.krb_driver.specs.Mistakes.{Matched, first_value, twice, v1_order, MistakeParts, nothing_selects, only_with}
+use Rattle.krb_driver.specs.Spelled.{◌>>=◌, ◌>>◌, spelled_seconds}
 use Rattle.krb_driver.specs.Loading.{whole_in}
 use Rattle.krb_driver.specs.Several.{label_of}
-use Rattle.krb_editors.specs.Selecting.{IsSpelledKvno, SpellsCriteria, asks_for_any, bad_criteria, bad_kvno}
+use Rattle.krb_editors.specs.Selecting.{asks_for_any, selection_of, spelled_kvno}
+
+-- what ktremove is asked for: which entries, whether they are only listed, and the byte order of version 1 keytabs
+pub record Removal : Type 0 where
+  pub selection : SelectionParts
+  pub dry_run : Bool
+  pub v1_order : Order
 
 -- old entries are selected
 abbrev pub asks_for_old : SelectedKvno → Bool
@@ -31,7 +35,7 @@ asks_for_old (Old age) = true
 asks_for_old kvno = false
 
 -- the verdict if no entry is selected: `refused 9`, reported at the end of several files; with `-k old` all is well if no name or enctype is given, or some entry has them
-abbrev pub none_verdict : {A : Type 0} → Bool → Selection A → Bool → Verdict
+abbrev pub none_verdict : Bool → SelectionParts → Bool → Verdict
 none_verdict are_several s has_named =
     if asks_for_old s.kvno && (asks_for_any s || has_named) then Well else (if are_several then Without else NothingToRemove Keytab)
 
@@ -40,13 +44,13 @@ abbrev pub places : List PlacedEntry → List ℕ
 places xs = map (λ x. x.0) xs
 
 -- the entries are removed, if there are any, and a line is printed for each
-abbrev pub removes : {A : Type 0} → RemoveOptions A → Bool → List ℕ → KeytabState → List PlacedEntry → Effect
+abbrev pub removes : Removal → Bool → List ℕ → KeytabState → List PlacedEntry → Effect
 removes o are_several file k xs =
     if length (places xs) == 0 then Displays file (text [] (none_verdict are_several o.selection (list_any (λ x. is_named o.selection x.1) (placed_entries k))))
     else saves_unless o.dry_run file (image_of (without k (places xs))) (flat_map (λ x. label_of are_several file ++ removed_line x) xs) Well
 
 -- the file, one of several or not, is held, unless it is a dry run, and opened; the selected entries of its keytab are removed
-abbrev pub ktremove_plan : {A : Type 0} → RemoveOptions A → ℕ → Bool → FileName → CommandPlan
+abbrev pub ktremove_plan : Removal → ℕ → Bool → FileName → CommandPlan
 ktremove_plan o now are_several file =
     holds (not o.dry_run) file (opens file (whole_in o.v1_order) (λ k. Ends (removes o are_several file.name.now k (selected_in o.selection now k))))
 
@@ -68,28 +72,18 @@ odd_selection words =
     else (if (length (words.values (codes "principal")) == 0) && ((length (words.values (codes "kvno")) == 0) && (length (words.values (codes "enctype")) == 0)) then Some (nothing_selects (codes "-p, -k or -e"))
     else None)
 
--- the old kvnos, with the age that is given
-abbrev pub old_kvno : Matched → SelectedKvno
-old_kvno words = Old (option_and_then seconds_in (first_value words (codes "age")))
+-- the kvnos that `-k` and `--age` select
+abbrev pub removed_kvno : Matched → Result SelectedKvno MistakeParts
+removed_kvno words = do
+  age ← spelled_seconds (first_value words (codes "age"))
+  spelled_kvno (codes "old") (Old age) (first_value words (codes "kvno"))
 
--- the first mistake of `-k` and `--age`
-abbrev pub kvno_mistake : Matched → Option MistakeParts
-kvno_mistake words = option_or (bad_seconds (first_value words (codes "age"))) (bad_kvno (codes "old") (old_kvno words) (first_value words (codes "kvno")))
-
--- the first mistake of the words
-abbrev pub remove_mistake : Matched → Option MistakeParts
-remove_mistake words =
-    option_or (twice words (codes "kvno") (codes "-k") (codes "--kvno"))
-    (option_or (twice words (codes "age") (codes "--age") (codes "--age"))
-    (option_or (odd_selection words) (option_or (kvno_mistake words) (bad_criteria words))))
-
--- the kvnos are those that `-k` selects
-abbrev pub SpellsKvno : Matched → SelectedKvno → Type 0
-SpellsKvno words = IsSpelledKvno (codes "old") (old_kvno words) (first_value words (codes "kvno"))
-
--- each option is what its own word spells
-pub record SpellsRemoval {A : Type 0} (words : Matched) (options : RemoveOptions A) : Type 0 where
-  pub kvno : SpellsKvno words options.selection.kvno
-  pub criteria : SpellsCriteria words options.selection
-  pub dry_run : options.dry_run ≡ words.flag (codes "dry-run")
-  pub v1_order : options.v1_order ≡ v1_order words
+-- what the words of ktremove ask for, or their first mistake
+abbrev pub removal_of : Matched → Result Removal MistakeParts
+removal_of words = do
+  twice words (codes "kvno") (codes "-k") (codes "--kvno")
+  twice words (codes "age") (codes "--age") (codes "--age")
+  odd_selection words
+  kvno ← removed_kvno words
+  selection ← selection_of kvno words
+  Ok (record { selection = selection; dry_run = words.flag (codes "dry-run"); v1_order = v1_order words })

@@ -1,15 +1,14 @@
 //! ccremove: removes tickets from a credential cache.
 
-ghost use Rattle.std.specs.Prelude.{◌≡◌, IfOk, map};
-ghost use Rattle.std.specs.Vec.{vec_items};
+ghost use Rattle.std.specs.Prelude.{◌≡◌, IfOk};
 ghost use Rattle.krb_ccache.specs.Store.{image_of};
 ghost use Rattle.krb_audit.specs.Tickets.{SelectsTickets, selected_tickets};
 ghost use Rattle.krb_driver.specs.Several.{label_of};
-ghost use Rattle.krb_editors.specs.Ccremove.{SpellsTickets, cache_after, ccremove_plan, ended_by, none_verdict, removes, ticket_mistake};
+ghost use Rattle.krb_editors.specs.Ccremove.{cache_after, ccremove_plan, ended_by, none_verdict, removes, ticket_removal_of};
 ghost use Rattle.krb_driver.specs.Commands.{text_effect, IsMade};
 ghost use Rattle.krb_driver.specs.declared.verdict.FileKind.TheVariants.{Cache as OfCache};
 ghost use Rattle.krb_editors.specs.Removing.{RemovesWith};
-ghost use Rattle.krb_driver.specs.Mistakes.{Reads};
+ghost use Rattle.krb_driver.specs.Spelled.{ReadsAs};
 
 use crate::removing::{FilesSeen, run_removals};
 use krb_audit::{SelectedTickets, TicketCriteria, select_tickets};
@@ -24,6 +23,7 @@ use krb_walk::Refusal;
 use krb_wire::NoMemory;
 use std::alloc::{Allocator, Global};
 use std::io::{Read, Write};
+use std::marker::Model;
 
 /// The words of ccremove.
 pub const CCREMOVE: CommandWords = CommandWords {
@@ -73,12 +73,27 @@ pub struct TicketOptions<A: Allocator> {
     pub dry_run: bool,
 }
 
+impl<A: Allocator> Model for TicketOptions<A> {
+    ghost use Rattle.std.specs.Prelude.{map};
+    ghost use Rattle.std.specs.Vec.{vec_items};
+    ghost use Rattle.krb_editors.specs.Ccremove.{TicketRemoval};
+
+    ghost Value = { TicketRemoval };
+
+    ghost view = { λ o. record {
+      servers = map vec_items o.servers.items;
+      all_services = o.all_services;
+      expired = o.expired;
+      dry_run = o.dry_run;
+    } };
+}
+
 /// Returns the options of ccremove. Refuses a line that selects nothing, and a bad name.
 pub fn ticket_options<'a, M: Matches<'a>>(
     alloc: Global,
     matches: &M,
 ) -> Result<TicketOptions<Global>, WordFault<'a>>
-    ensures { Reads (ticket_mistake (M.matched matches.now)) (SpellsTickets (M.matched matches.now)) result }
+    ensures { ReadsAs (ticket_removal_of (M.matched matches.now)) result }
 {
     let all_services = matches.flag("all-services");
     let expired = matches.flag("expired");
@@ -156,7 +171,7 @@ fn select<A: Allocator + Copy, B: Allocator>(
     cache: &Ccache<A>,
 ) -> Result<SelectedTickets<A>, NoMemory>
     ensures { IfOk result (SelectsTickets (label_of command.now.are_several file.entry.name.now)
-        (map vec_items command.now.options.now.servers.items) command.now.options.now.all_services command.now.ended_by cache.now.state) }
+        command.now.options.now.servers command.now.options.now.all_services command.now.ended_by cache.now.state) }
 {
     let RemoveTickets {
         options,
@@ -180,7 +195,7 @@ fn remove<'a, A: Allocator + Copy, B: Allocator>(
     cache: Ccache<A>,
 ) -> Result<Made<A, Output<A>>, FileError<'a>>
     ensures { IsMade (removes command.now.options.now command.now.are_several file.entry.name.now cache.state
-        (selected_tickets (map vec_items command.now.options.now.servers.items) command.now.options.now.all_services command.now.ended_by cache.state))
+        (selected_tickets command.now.options.now.servers command.now.options.now.all_services command.now.ended_by cache.state))
         (text_effect file.entry.name.now result) }
 {
     let options = command.options;

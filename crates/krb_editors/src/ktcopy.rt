@@ -7,10 +7,11 @@ ghost use Rattle.krb_copy.specs.Made.{IsMade as IsRunOf};
 ghost use Rattle.krb_audit.specs.Findings.{hides_added};
 ghost use Rattle.krb_audit.specs.Selection.{selected_in};
 ghost use Rattle.krb_driver.specs.Commands.{Makes, Runs, always, any, text_effect, IsMade};
-ghost use Rattle.krb_driver.specs.Mistakes.{Reads, Refuses};
+ghost use Rattle.krb_driver.specs.Mistakes.{Refuses};
+ghost use Rattle.krb_driver.specs.Spelled.{ReadsAs};
 ghost use Rattle.krb_driver.specs.RunErrors.{hiding};
 ghost use Rattle.krb_driver.specs.declared.verdict.Verdict.TheVariants.{Clashed, Well};
-ghost use Rattle.krb_editors.specs.Ktcopy.{SpellsCopy, asks_for_some, copied_effect, copies_from, copies_to, copy_mistake, finds_none, ktcopy_plan, odd_new_name};
+ghost use Rattle.krb_editors.specs.Ktcopy.{asks_for_some, copied_effect, copies_from, copies_to, copy_of, finds_none, ktcopy_plan, odd_new_name};
 
 use crate::selecting::{
     OF_ENCTYPE, OF_PRINCIPAL, spelled_kvno, spelled_new_name, spelled_selection,
@@ -28,6 +29,7 @@ use krb_walk::Refusal;
 use krb_wire::{NoMemory, Order, Principal};
 use std::alloc::{Allocator, Global};
 use std::io::{Read, Write};
+use std::marker::Model;
 
 /// The words of ktcopy.
 pub const KTCOPY: CommandWords = CommandWords {
@@ -80,6 +82,22 @@ pub struct CopyOptions<A: Allocator> {
     pub v1_order: Order,
 }
 
+impl<A: Allocator> Model for CopyOptions<A> {
+    ghost use Rattle.std.specs.Prelude.{option_map};
+    ghost use Rattle.krb_wire.specs.Reading.{principal_parts};
+    ghost use Rattle.krb_editors.specs.Ktcopy.{CopyParts};
+
+    ghost Value = { CopyParts };
+
+    ghost view = { λ o. record {
+      selection = o.selection;
+      new_name = option_map principal_parts o.new_name;
+      replace = o.replace;
+      dry_run = o.dry_run;
+      v1_order = o.v1_order;
+    } };
+}
+
 // Refuses `--as` without just one `-p`.
 fn refuse_odd_new_name<'a, M: Matches<'a>>(matches: &M) -> Result<(), Mistake<'a>>
     ensures { Refuses (odd_new_name (M.matched matches.now)) result }
@@ -95,7 +113,7 @@ pub fn copy_options<'a, M: Matches<'a>>(
     alloc: Global,
     matches: &M,
 ) -> Result<CopyOptions<Global>, WordFault<'a>>
-    ensures { Reads (copy_mistake (M.matched matches.now)) (SpellsCopy (M.matched matches.now)) result }
+    ensures { ReadsAs (copy_of (M.matched matches.now)) result }
 {
     refuse_twice(matches, "kvno", "-k", "--kvno")?;
     refuse_twice(matches, "as", "--as", "--as")?;
@@ -197,7 +215,7 @@ fn copy<'a, A: Allocator + Copy, B: Allocator>(
 ) -> Result<Made<A, Output<A>>, FileError<'a>>
     ensures { IsMade (copied_effect command.now.options.now command.now.to.name.now
         (copy_run command.now.options.now.replace
-        (asked_as (option_map principal_parts command.now.options.now.new_name) entries.now) to.state)) (text_effect command.now.to.name.now result) }
+        (asked_as command.now.options.now.new_name entries.now) to.state)) (text_effect command.now.to.name.now result) }
 {
     let new_name = command.options.new_name.as_ref();
     match copy_into(alloc, entries, new_name, to, command.options.replace) {

@@ -2,9 +2,8 @@
 
 ghost use Rattle.std.specs.Prelude.{◌≡◌};
 ghost use Rattle.krb_driver.specs.Commands.{IsMade, Makes, Runs, always, any, text_effect};
-ghost use Rattle.krb_driver.specs.Mistakes.{Reads};
-ghost use Rattle.krb_editors.specs.Ktdiff.{SpellsDiff, differs, diffs_from, finds_none, ktdiff_plan, verdict_of};
-ghost use Rattle.krb_editors.specs.Selecting.{bad_criteria};
+ghost use Rattle.krb_driver.specs.Spelled.{ReadsAs};
+ghost use Rattle.krb_editors.specs.Ktdiff.{comparison_of, differs, diffs_from, finds_none, ktdiff_plan, verdict_of};
 
 use crate::selecting::{OF_ENCTYPE, OF_PRINCIPAL, spelled_selection};
 use krb_audit::{SelectedKvno, Selection, selected_entries};
@@ -18,6 +17,7 @@ use krb_keytab::{EntryView, Keytab};
 use krb_wire::Order;
 use std::alloc::{Allocator, Global};
 use std::io::{Read, Write};
+use std::marker::Model;
 
 /// The words of ktdiff.
 pub const KTDIFF: CommandWords = CommandWords {
@@ -57,12 +57,23 @@ pub struct DiffOptions<A: Allocator> {
     pub v1_order: Order,
 }
 
+impl<A: Allocator> Model for DiffOptions<A> {
+    ghost use Rattle.krb_editors.specs.Ktdiff.{Comparison};
+
+    ghost Value = { Comparison };
+
+    ghost view = { λ o. record {
+      selection = o.selection;
+      v1_order = o.v1_order;
+    } };
+}
+
 /// Returns the options of ktdiff. Refuses a bad value.
 pub fn diff_options<'a, M: Matches<'a>>(
     alloc: Global,
     matches: &M,
 ) -> Result<DiffOptions<Global>, WordFault<'a>>
-    ensures { Reads (bad_criteria (M.matched matches.now)) (SpellsDiff (M.matched matches.now)) result }
+    ensures { ReadsAs (comparison_of (M.matched matches.now)) result }
 {
     let selection = spelled_selection(alloc, matches, SelectedKvno::Any)?;
     Ok(DiffOptions {

@@ -6,8 +6,9 @@ ghost use Rattle.krb_driver.specs.Several.{label_of};
 ghost use Rattle.krb_driver.specs.Commands.{text_effect, IsMade};
 ghost use Rattle.krb_driver.specs.declared.verdict.FileKind.TheVariants.{Keytab as OfKeytab};
 ghost use Rattle.krb_editors.specs.Removing.{RemovesWith};
-ghost use Rattle.krb_editors.specs.Ktremove.{SpellsKvno, SpellsRemoval, kvno_mistake, ktremove_plan, needed_time, none_verdict, odd_selection, remove_mistake, removes};
-ghost use Rattle.krb_driver.specs.Mistakes.{Reads, Refuses, Spells};
+ghost use Rattle.krb_editors.specs.Ktremove.{ktremove_plan, needed_time, none_verdict, odd_selection, removal_of, removed_kvno, removes};
+ghost use Rattle.krb_driver.specs.Mistakes.{Refuses};
+ghost use Rattle.krb_driver.specs.Spelled.{ReadsAs, Spells};
 
 use crate::removing::{FilesSeen, run_removals};
 use crate::selecting::{OF_ENCTYPE, OF_PRINCIPAL, spelled_kvno, spelled_selection};
@@ -23,6 +24,7 @@ use krb_keytab::Keytab;
 use krb_wire::{NoMemory, Order};
 use std::alloc::{Allocator, Global};
 use std::io::{Read, Write};
+use std::marker::Model;
 
 /// The words of ktremove.
 pub const KTREMOVE: CommandWords = CommandWords {
@@ -73,6 +75,18 @@ pub struct RemoveOptions<A: Allocator> {
     pub v1_order: Order,
 }
 
+impl<A: Allocator> Model for RemoveOptions<A> {
+    ghost use Rattle.krb_editors.specs.Ktremove.{Removal};
+
+    ghost Value = { Removal };
+
+    ghost view = { λ o. record {
+      selection = o.selection;
+      dry_run = o.dry_run;
+      v1_order = o.v1_order;
+    } };
+}
+
 // Refuses `--age` without `-k old`, and a line that selects nothing.
 fn refuse_unselected<'a, M: Matches<'a>>(matches: &M) -> Result<(), Mistake<'a>>
     ensures { Refuses (odd_selection (M.matched matches.now)) result }
@@ -90,7 +104,7 @@ fn refuse_unselected<'a, M: Matches<'a>>(matches: &M) -> Result<(), Mistake<'a>>
 
 // Returns the kvnos that `-k` and `--age` select.
 fn removed_kvno<'a, M: Matches<'a>>(matches: &M) -> Result<SelectedKvno, Mistake<'a>>
-    ensures { Spells (kvno_mistake (M.matched matches.now)) (SpellsKvno (M.matched matches.now)) result }
+    ensures { Spells (removed_kvno (M.matched matches.now)) result }
 {
     let age = spelled_seconds(matches, "age")?;
     spelled_kvno(matches, "old", SelectedKvno::Old(age))
@@ -102,7 +116,7 @@ pub fn remove_options<'a, M: Matches<'a>>(
     alloc: Global,
     matches: &M,
 ) -> Result<RemoveOptions<Global>, WordFault<'a>>
-    ensures { Reads (remove_mistake (M.matched matches.now)) (SpellsRemoval (M.matched matches.now)) result }
+    ensures { ReadsAs (removal_of (M.matched matches.now)) result }
 {
     refuse_twice(matches, "kvno", "-k", "--kvno")?;
     refuse_twice(matches, "age", "--age", "--age")?;

@@ -1,8 +1,11 @@
 //! Which entries the words of a command select, and their new name.
 
-ghost use Rattle.std.specs.Prelude.{◌≡◌, IfOk, Ok, codes, option_and_then};
-ghost use Rattle.krb_driver.specs.Mistakes.{bad_name, first_value, Spells, SpellsInMemory};
-ghost use Rattle.krb_editors.specs.Selecting.{IsNewName, IsSpelledKvno, SpellsCriteria, bad_criteria, bad_kvno};
+ghost use Rattle.std.specs.Prelude.{◌≡◌, IfOk, IsOkAnd, codes, map, option_map};
+ghost use Rattle.std.specs.Vec.{vec_items};
+ghost use Rattle.krb_wire.specs.Reading.{principal_parts};
+ghost use Rattle.krb_driver.specs.Mistakes.{first_value};
+ghost use Rattle.krb_driver.specs.Spelled.{Spells, SpellsInMemory};
+ghost use Rattle.krb_editors.specs.Selecting.{selection_of, spelled_kvno, spelled_new_name};
 
 use krb_audit::{SelectedKvno, Selection};
 use krb_driver::{
@@ -35,8 +38,7 @@ pub fn spelled_kvno<'a, M: Matches<'a>>(
     name: &str,
     named: SelectedKvno,
 ) -> Result<SelectedKvno, Mistake<'a>>
-    ensures { Spells (bad_kvno name.now named (first_value (M.matched matches.now) (codes "kvno")))
-        (IsSpelledKvno name.now named (first_value (M.matched matches.now) (codes "kvno"))) result }
+    ensures { Spells (spelled_kvno name.now named (first_value (M.matched matches.now) (codes "kvno"))) result }
 {
     match first_value(matches, "kvno") {
         None => Ok(SelectedKvno::Any),
@@ -54,8 +56,8 @@ fn selection_of(
     names: Result<Vec<Vec<u8>>, NoMemory>,
     enctypes: Result<Vec<u16>, NoMemory>,
 ) -> Result<Selection<Global>, NoMemory>
-    ensures names { IfOk result (λ selection. names ≡ Ok selection.names) }
-    ensures enctypes { IfOk result (λ selection. enctypes ≡ Ok selection.enctypes) }
+    ensures names { IfOk result (λ selection. IsOkAnd names (λ names. map vec_items names.items ≡ selection.names)) }
+    ensures enctypes { IfOk result (λ selection. IsOkAnd enctypes (λ enctypes. enctypes.items ≡ selection.enctypes)) }
     ensures kvno { IfOk result (λ selection. selection.kvno ≡ kvno) }
 {
     Ok(Selection {
@@ -71,8 +73,7 @@ pub fn spelled_selection<'a, M: Matches<'a>>(
     matches: &M,
     kvno: SelectedKvno,
 ) -> Spelled<'a, Selection<Global>>
-    ensures { SpellsInMemory (bad_criteria (M.matched matches.now))
-        (λ selection. SpellsCriteria (M.matched matches.now) selection × (selection.kvno ≡ kvno)) result }
+    ensures { SpellsInMemory (λ selection. selection) (selection_of kvno (M.matched matches.now)) result }
 {
     let enctypes = spelled_etypes(alloc, matches, "enctype")?;
     let names = spelled_names(alloc, matches, "principal")?;
@@ -84,8 +85,7 @@ pub fn spelled_new_name<'a, M: Matches<'a>>(
     alloc: Global,
     matches: &M,
 ) -> Spelled<'a, Option<Principal<Global>>>
-    ensures { SpellsInMemory (option_and_then bad_name (first_value (M.matched matches.now) (codes "as")))
-        (IsNewName (first_value (M.matched matches.now) (codes "as"))) result }
+    ensures { SpellsInMemory (option_map principal_parts) (spelled_new_name (first_value (M.matched matches.now) (codes "as"))) result }
 {
     let Some(word) = first_value(matches, "as") else {
         return Ok(Ok(None));

@@ -1,12 +1,11 @@
 -- What ktcheck shows of a file, as JSON, and of one that gave no keytab.
-use Rattle.krb_readers.proofs.Cited.{arith, ◌≡◌, ℕ, List, ap, Bool, true, false, IsFalse, Ok, Err, CheckParts, EndsAfter, ShowsPage, output_error, verdict_status, Appends-nil, AppendsPrefix-none, Watch, OutFault, Ends, check_json_text, Prints, found_verdict, is_silent, object_page, refused_effect, Displays, Page, Result, makes-end, FileName, Ghosts}
+use Rattle.krb_readers.proofs.Cited.{arith, ◌≡◌, ℕ, KeytabCheck, List, ap, Bool, true, false, IsFalse, Ok, Err, CheckParts, EndsAfter, ShowsPage, output_error, verdict_status, Appends-nil, AppendsPrefix-none, Watch, OutFault, Ends, check_json_text, Prints, found_verdict, is_silent, object_page, refused_effect, Displays, Page, Result, makes-end, FileName, Ghosts}
 use Rattle.krb_files.specs.Loading.{Answer}
 use Rattle.krb_driver.specs.Commands.{Effect, IsMade, MakesFairly, Tries, any, tries}
 use Rattle.krb_driver.specs.declared.error.RunError.{RunError}
 use Rattle.krb_findings.specs.declared.finding_set.FindingSet.{FindingSet}
 use Rattle.krb_driver.specs.declared.error.RunError.TheVariants.{NoMemory}
 use Rattle.krb_driver.specs.declared.verdict.Verdict.{Verdict}
-use Rattle.krb_readers.specs.declared.ktcheck.words.CheckOptions.{CheckOptions}
 use Rattle.krb_readers.proofs.Listed.{ShowsPage-done, ShowsPage-failed, line-some}
 
 -- a file that gave no keytab, or no cache, ends the run
@@ -24,7 +23,7 @@ pub tried : {F X : Type 0} (trait : Ghosts F) (old : F) (file : FileName) (gives
     → MakesFairly trait old (tries file gives (λ x. Ends (Displays file.name.now (page x))) (λ why. Ends (refused_effect json file.name.now why))) any effect new
 tried trait old file gives given json page effect new tries made = search (arith, refused_ends, makes-end)
 
-module _ {A : Type 0} (o : CheckOptions A) (explained : FindingSet) (file : List ℕ) (c : CheckParts) where
+module _ (o : KeytabCheck) (explained : FindingSet) (file : List ℕ) (c : CheckParts) where
   -- the object of a file
   abbrev pub object : List ℕ
   object = check_json_text file c (verdict_status (found_verdict o explained c))

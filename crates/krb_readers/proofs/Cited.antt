@@ -12,7 +12,8 @@ pub use Rattle.krb_files.specs.declared.output.OutFault.{OutFault}
 pub use Rattle.krb_files.specs.Plan.{Ends}
 pub use Rattle.krb_json.specs.Check.{check_json_text}
 pub use Rattle.krb_text.specs.Gathered.{Prints}
-pub use Rattle.krb_readers.specs.Ktcheck.{found_verdict, is_silent, object_page, refused_effect, found, page_of, bad_finding, finding_set, findings}
+pub use Rattle.krb_readers.specs.Ktcheck.{found_verdict, is_silent, object_page, refused_effect, found, page_of}
+pub use Rattle.krb_readers.specs.KtcheckWords.{KeytabCheck, spelled_finding, spelled_findings}
 pub use Rattle.krb_ccache.specs.Store.{placed_credentials, PlacedCredential}
 pub use Rattle.krb_readers.specs.Klist.{SeesSoFar, listed_text, listing_page, gap}
 pub use Rattle.krb_driver.proofs.Making.{makes-end}

@@ -1,12 +1,21 @@
--- The first mistake among several.
-use Rattle.std.specs.Prelude.{◌≡◌, Option, None}
-use Rattle.std.specs.Option.{option_or}
-use Rattle.std.proofs.Common.{arith}
+-- What words spell, joined word by word.
+use Rattle.std.proofs.Common.{◌≡◌, ℕ, ◌+◌, ◌<◌, List, ◌∷◌, length, map, drop, get_or, fold, Bor, Result, Ok, Err, refl, sym, ap, ◌∙◌}
+use Rattle.std.proofs.lemmas.List.{drop_more}
+use Rattle.krb_driver.specs.Loading.{result_map}
+use Rattle.krb_driver.specs.Mistakes.{MistakeParts}
+use Rattle.krb_driver.specs.Spelled.{◌>>=◌, each}
 
--- there is none, if each of two is none
-pub none_of_two : {X : Type 0} (a b : Option X) → a ≡ None → b ≡ None → option_or a b ≡ None
-none_of_two a b ea eb = grind (arith, ea, eb)
+module _ {X Y : Type 0} (g : Y → X → Y) (a : Y) where
+  fold_cons : (v : X) (s : Result (List X) MistakeParts) → result_map (fold g a) (s >>= (λ vs. Ok (v ∷ vs))) ≡ result_map (fold g (g a v)) s
+  fold_cons v (Ok vs) = refl
+  fold_cons v (Err m) = refl
 
--- that of the last of four, if the others are none
-pub of_fourth : {X : Type 0} (a b c d : Option X) → a ≡ None → b ≡ None → c ≡ None → option_or a (option_or b (option_or c d)) ≡ d
-of_fourth a b c d ea eb ec = search arith
+  -- what the words that are left add to what is joined so far is what all spell; so it is after one more
+  pub folds_left : (f : List ℕ → Result X MistakeParts) (words : List (Bor (List ℕ))) (i : ℕ) (d : Bor (List ℕ)) (v : X) (all : Result Y MistakeParts) → i < length words
+      → f (get_or words i d).now ≡ Ok v → result_map (fold g a) (each f (map (λ word. word.now) (drop i words))) ≡ all
+      → result_map (fold g (g a v)) (each f (map (λ word. word.now) (drop (i + 1) words))) ≡ all
+  folds_left f words i d v all below is left =
+      let rest = each f (map (λ word. word.now) (drop (i + 1) words)) in
+      sym (fold_cons v rest)
+      ∙ ap (λ (r : Result X MistakeParts). result_map (fold g a) (r >>= (λ v. rest >>= (λ vs. Ok (v ∷ vs))))) (sym is)
+      ∙ ap (λ (ws : List (Bor (List ℕ))). result_map (fold g a) (each f (map (λ word. word.now) ws))) (sym (drop_more words i d below)) ∙ left

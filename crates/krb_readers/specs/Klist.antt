@@ -1,5 +1,5 @@
 -- What klist does, and `klist -s`.
-use Rattle.std.specs.Prelude.{ℕ, ◌-◌, ◌^◌, List, length, filter, max, min, Bool, true, not, ◌&&◌, nat_lt, if◌then◌else◌, codes, Option, None, Some, ◌≡◌, ◌⊎◌, ◌+◌, [], ◌∷◌, ◌++◌, false, unwrap_or, option_and_then, Result, Ok, Err, is_ok, ◌||◌}
+use Rattle.std.specs.Prelude.{ℕ, ◌-◌, ◌^◌, List, length, filter, max, min, Bool, true, not, ◌&&◌, nat_lt, if◌then◌else◌, codes, Option, None, Some, ◌≡◌, ◌⊎◌, ◌+◌, [], ◌∷◌, ◌++◌, false, unwrap_or, Result, Ok, Err, is_ok, ◌||◌}
 use Rattle.std.specs.Option.{option_map_or, option_or}
 use Rattle.krb_wire.specs.declared.format.Order.{Order}
 use Rattle.krb_walk.specs.Store.{fault_of}
@@ -25,7 +25,8 @@ use Rattle.krb_driver.specs.declared.verdict.FileKind.{FileKind}
 use Rattle.krb_driver.specs.declared.verdict.FileKind.TheVariants as file
 use Rattle.krb_driver.specs.Commands.{CommandPlan, Displays, Page, always, opens}
 use Rattle.krb_driver.specs.Loading.{cache_of, listed_in}
-use Rattle.krb_driver.specs.Mistakes.{Matched, twice, typed, v1_order, MistakeParts, does_not_go_with, for_keytabs, only_with, takes_one_file, bad_seconds, first_value}
+use Rattle.krb_driver.specs.Mistakes.{Matched, twice, typed, v1_order, MistakeParts, does_not_go_with, for_keytabs, only_with, takes_one_file, first_value}
+use Rattle.krb_driver.specs.Spelled.{◌>>=◌, ◌>>◌, spelled_seconds}
 use Rattle.krb_driver.specs.RunErrors.{listing_verdict}
 use Rattle.krb_driver.specs.Several.{RunsOver, first_round}
 use Rattle.krb_driver.specs.declared.command.RunEnd.{RunEnd}
@@ -37,7 +38,6 @@ use Rattle.krb_ccache.specs.Config.{is_config}
 use Rattle.krb_files.specs.declared.files.Files.{Ghosts}
 use Rattle.krb_files.specs.declared.files.LoadFault.TheVariants as load
 use Rattle.krb_files.specs.Loading.{Answer, LoadsFile, most_bytes}
-use Rattle.krb_text.specs.Numbers.{seconds_in}
 use Rattle.krb_readers.specs.declared.klist.ticket_check.TicketCheck.{TicketCheck}
 use Rattle.krb_readers.specs.declared.klist.ticket_check.SeenTickets.{SeenTickets as Seen}
 
@@ -128,10 +128,6 @@ odd_seconds words =
     option_or (twice words (codes "for") (codes "--for") (codes "--for"))
     (if nat_lt 0 (length (words.values (codes "for"))) && not (words.flag (codes "silent")) then Some (only_with (codes "--for") (codes "-s")) else None)
 
--- the first mistake in the words of a listing
-abbrev pub list_mistake : Matched → Option MistakeParts
-list_mistake words = option_or (odd_seconds words) (odd_option words)
-
 -- the kind of file, a cache unless `-k` is given, and the columns, each selected by its own option
 abbrev pub list_kind : Matched → ListKind
 list_kind words =
@@ -144,9 +140,12 @@ abbrev pub file_kind : ListKind → FileKind
 file_kind (Keytab columns) = file.Keytab
 file_kind (Cache columns) = file.Cache
 
--- the options of a listing
-abbrev pub list_options : Matched → KlistOptions
-list_options words = record { kind = list_kind words; v1_order = v1_order words; json = words.flag (codes "json") }
+-- what the words of klist ask for if it lists files, or their first mistake
+abbrev pub listing_of : Matched → Result KlistOptions MistakeParts
+listing_of words = do
+  odd_seconds words
+  odd_option words
+  Ok (record { kind = list_kind words; v1_order = v1_order words; json = words.flag (codes "json") })
 
 -- ---- what `klist -s` does: whether a cache has a ticket to go on with
 
@@ -233,15 +232,15 @@ odd_with_silent words =
 abbrev pub odd_files : Matched → Option MistakeParts
 odd_files words = if nat_lt 1 (length (words.values (codes "FILE"))) then Some (takes_one_file (silent words)) else None
 
--- the first mistake of the words
-abbrev pub check_mistake : Matched → Option MistakeParts
-check_mistake words =
-    option_or (odd_seconds words)
-    (option_or (odd_with_silent words) (option_or (odd_with_cache words) (option_or (odd_files words) (bad_seconds (first_value words (codes "for"))))))
-
--- the seconds are those that the word spells, or 0 if there is none
-abbrev pub check_of : Matched → TicketCheck
-check_of words = record { seconds = unwrap_or (option_and_then seconds_in (first_value words (codes "for"))) 0 }
+-- what the words of `klist -s` ask for, or their first mistake
+abbrev pub ticket_check_of : Matched → Result TicketCheck MistakeParts
+ticket_check_of words = do
+  odd_seconds words
+  odd_with_silent words
+  odd_with_cache words
+  odd_files words
+  seconds ← spelled_seconds (first_value words (codes "for"))
+  Ok (record { seconds = unwrap_or seconds 0 })
 
 -- ---- what a pass over the credentials of a cache has seen
 

@@ -1,17 +1,12 @@
--- What ktcheck does, and what its words ask for.
-use Rattle.std.specs.Prelude.{◌≡◌, ℕ, ◌-◌, List, [], length, codes, map, Bool, true, not, ◌&&◌, ◌||◌, nat_le, nat_lt, if◌then◌else◌, Option, None, Some, is_none, Result, Ok, Err, fold}
-use Rattle.std.specs.List.{find}
-use Rattle.std.specs.Option.{option_map_or, option_or}
-use Rattle.std.specs.Str.{bytes_eq}
-use Rattle.std.specs.Vec.{vec_items}
+-- What ktcheck does.
+use Rattle.std.specs.Prelude.{ℕ, ◌-◌, List, [], length, Bool, true, not, ◌&&◌, ◌||◌, nat_le, nat_lt, if◌then◌else◌, Option, None, Some, Result, Ok, Err}
 use Rattle.krb_keytab.specs.Store.{KeytabState}
 use Rattle.krb_files.specs.declared.files.Files.{Ghosts}
 use Rattle.krb_files.specs.Plan.{Ends}
-use Rattle.krb_findings.specs.declared.finding.Finding.{Finding}
 use Rattle.krb_findings.specs.declared.finding_set.FindingSet.{FindingSet}
 use Rattle.krb_audit.specs.CheckUp.{CheckParts, checked, findings_of, is_wrong, uncounted}
 use Rattle.krb_audit.specs.Report.{report}
-use Rattle.krb_findings.specs.Table.{all_findings, joined, none, only_if, row_of, without}
+use Rattle.krb_findings.specs.Table.{joined, none, without}
 use Rattle.krb_json.specs.Check.{check_json_text, refused_json_text}
 use Rattle.krb_driver.specs.declared.command.RunEnd.{RunEnd}
 use Rattle.krb_driver.specs.declared.command.World.{World}
@@ -22,54 +17,53 @@ use Rattle.krb_driver.specs.declared.verdict.Verdict.{Verdict}
 use Rattle.krb_driver.specs.declared.verdict.Verdict.TheVariants.{Found}
 use Rattle.krb_driver.specs.Commands.{CommandPlan, Displays, Effect, EndsBefore, Fails, Page, output_page, text, tries}
 use Rattle.krb_driver.specs.Loading.{keytab_in}
-use Rattle.krb_driver.specs.Mistakes.{ArePrintedNames, AreSpelledSeconds, Matched, MistakeParts, no_finding, bad_name, bad_seconds, first_mistake, first_value, twice, v1_order}
 use Rattle.krb_driver.specs.RunErrors.{Ending, error_status, said_of_file, verdict_status}
 use Rattle.krb_driver.specs.Several.{RunsOver, first_round, label_of}
 use Rattle.krb_readers.specs.declared.file_page.FilePage.{FilePage}
 use Rattle.krb_readers.specs.declared.file_page.FilePage.TheVariants as page
 use Rattle.krb_readers.specs.declared.ktcheck.page.CheckObject.{CheckObject}
-use Rattle.krb_readers.specs.declared.ktcheck.words.CheckOptions.{CheckOptions}
+use Rattle.krb_readers.specs.KtcheckWords.{KeytabCheck}
 
 -- ---- a file
 
 -- the findings that are left out: with `-q` those that do not count for the status
-abbrev pub left_out : {A : Type 0} → CheckOptions A → CheckParts → FindingSet
+abbrev pub left_out : KeytabCheck → CheckParts → FindingSet
 left_out o c = if o.quiet then uncounted c.mode o.allowed else none
 
 -- nothing is printed of a file: with `-q` if nothing is wrong
-abbrev pub is_silent : {A : Type 0} → CheckOptions A → CheckParts → Bool
+abbrev pub is_silent : KeytabCheck → CheckParts → Bool
 is_silent o c = o.quiet && not (is_wrong o.allowed c)
 
 -- the verdict: the findings to explain are those that are not left out and were not explained before, and what is allowed is not wrong
-abbrev pub found_verdict : {A : Type 0} → CheckOptions A → FindingSet → CheckParts → Verdict
+abbrev pub found_verdict : KeytabCheck → FindingSet → CheckParts → Verdict
 found_verdict o explained c =
     Found (record { words = without (findings_of c) (joined (left_out o c) explained); weak_etypes = c.weak_etypes; fault = c.fault; is_wrong = is_wrong o.allowed c; v1_order = o.v1_order })
 
 -- what the lines of a file begin with: its name, if there are several files or the options ask for it
-abbrev pub has_names : {A : Type 0} → CheckOptions A → Bool → Bool
+abbrev pub has_names : KeytabCheck → Bool → Bool
 has_names o are_several = o.with_filename || are_several
 
 -- what is found about a keytab in a plain file with this mode
-abbrev pub found : {A : Type 0} → CheckOptions A → Option ℕ → Option ℕ → KeytabState → CheckParts
-found o aged_by mode k = checked mode aged_by (map vec_items o.wanted.items) k
+abbrev pub found : KeytabCheck → Option ℕ → Option ℕ → KeytabState → CheckParts
+found o aged_by mode k = checked mode aged_by o.wanted k
 
 -- the lines of a file, each after a label
-abbrev pub lines_of : {A : Type 0} → CheckOptions A → List ℕ → CheckParts → List ℕ
+abbrev pub lines_of : KeytabCheck → List ℕ → CheckParts → List ℕ
 lines_of o label c = if is_silent o c then [] else report label (left_out o c) c
 
 -- the page of what is found, by lines
-abbrev pub lines_page : {A : Type 0} → CheckOptions A → Bool → FindingSet → List ℕ → CheckParts → Page
+abbrev pub lines_page : KeytabCheck → Bool → FindingSet → List ℕ → CheckParts → Page
 lines_page o are_several explained file c = text (lines_of o (label_of (has_names o are_several) file) c) (found_verdict o explained c)
 
 -- the page of what is found, as one JSON object, from which nothing is left out
-abbrev pub object_page : {A : Type 0} → CheckOptions A → FindingSet → List ℕ → CheckParts → Page
+abbrev pub object_page : KeytabCheck → FindingSet → List ℕ → CheckParts → Page
 object_page o explained file c = record {
   out = if is_silent o c then [] else check_json_text file c (verdict_status (found_verdict o explained c));
   ending = Ok (found_verdict o explained c);
   takes = true;
 }
 
-abbrev pub page_of : {A : Type 0} → CheckOptions A → Bool → FindingSet → List ℕ → CheckParts → Page
+abbrev pub page_of : KeytabCheck → Bool → FindingSet → List ℕ → CheckParts → Page
 page_of o are_several explained file c = if o.json then object_page o explained file c else lines_page o are_several explained file c
 
 -- the page of a file that gave no keytab
@@ -92,7 +86,7 @@ abbrev pub check_page : {A B : Type 0} → CheckObject A B → List ℕ → Page
 check_page j file = object_page j.options.now j.explained file (found j.options.now j.aged_by j.mode j.keytab.state)
 
 -- a file is tried, and what is found about its keytab is shown
-abbrev pub plan_of : {A : Type 0} → CheckOptions A → Option ℕ → Bool → FindingSet → FileName → Option ℕ → CommandPlan
+abbrev pub plan_of : KeytabCheck → Option ℕ → Bool → FindingSet → FileName → Option ℕ → CommandPlan
 plan_of o aged_by are_several explained file mode =
     tries file (keytab_in o.v1_order)
     (λ k. Ends (Displays file.name.now (page_of o are_several explained file.name.now (found o aged_by mode k))))
@@ -115,7 +109,7 @@ aged_by None now = Ok None
 aged_by (Some seconds) None = Err ClockNotRead
 aged_by (Some seconds) (Some now) = Ok (if nat_le seconds now then Some (now - seconds) else None)
 
-module _ {A F R W E : Type 0} (trait : Ghosts F) (o : CheckOptions A) (old new : World F R W E) (status : ℕ) (names : List FileName) where
+module _ {F R W E : Type 0} (trait : Ghosts F) (o : KeytabCheck) (old new : World F R W E) (status : ℕ) (names : List FileName) where
   -- a run over files; it ends with the greatest status
   pub record ChecksBy (by : Option ℕ) : Type 0 where
     pub explained : FindingSet
@@ -127,40 +121,5 @@ module _ {A F R W E : Type 0} (trait : Ghosts F) (o : CheckOptions A) (old new :
   ChecksWith (Err why) = EndsBefore trait old new status why
 
 -- files are checked at that time
-abbrev pub ChecksAll : {A F R W E : Type 0} → Ghosts F → CheckOptions A → Option ℕ → World F R W E → World F R W E → ℕ → List FileName → Type 0
+abbrev pub ChecksAll : {F R W E : Type 0} → Ghosts F → KeytabCheck → Option ℕ → World F R W E → World F R W E → ℕ → List FileName → Type 0
 ChecksAll trait o now old new status names = ChecksWith trait o old new status names (aged_by o.older now)
-
--- ---- what the words of ktcheck ask for
-
--- the finding with that word
-abbrev pub finding : List ℕ → Option Finding
-finding word = find (λ f. bytes_eq (row_of f).word word) all_findings
-
--- the mistake in a word that is no finding
-abbrev pub bad_finding : List ℕ → Option MistakeParts
-bad_finding word = if is_none (finding word) then Some (no_finding word) else None
-
--- the same, as a set
-abbrev pub finding_set : List ℕ → FindingSet
-finding_set word = option_map_or (only_if true) (finding word) none
-
--- the findings of those words
-abbrev pub findings : List (List ℕ) → FindingSet
-findings words = fold (λ found word. joined found (finding_set word)) none words
-
--- the first mistake: an age is given twice, or in a finding that is allowed, the age, and a name that has to be there
-abbrev pub check_mistake : Matched → Option MistakeParts
-check_mistake words =
-    option_or (twice words (codes "older") (codes "--older") (codes "--older"))
-    (option_or (first_mistake bad_finding (words.values (codes "allow")))
-    (option_or (bad_seconds (first_value words (codes "older"))) (first_mistake bad_name (words.values (codes "want")))))
-
--- each option is what its own word spells
-pub record SpellsCheck {A : Type 0} (words : Matched) (o : CheckOptions A) : Type 0 where
-  pub v1_order : o.v1_order ≡ v1_order words
-  pub quiet : o.quiet ≡ words.flag (codes "quiet")
-  pub json : o.json ≡ words.flag (codes "json")
-  pub with_filename : o.with_filename ≡ words.flag (codes "with-filename")
-  pub allowed : o.allowed ≡ findings (words.values (codes "allow"))
-  pub older : AreSpelledSeconds (first_value words (codes "older")) o.older
-  pub wanted : ArePrintedNames (words.values (codes "want")) o.wanted

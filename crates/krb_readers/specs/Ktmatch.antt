@@ -1,8 +1,7 @@
--- What ktmatch does, and what its words ask for.
-use Rattle.std.specs.Prelude.{◌≡◌, ◌⊎◌, ◌==◌, ℕ, max, List, [], ◌∷◌, ◌++◌, length, map, fold, codes, Bool, true, false, not, ◌&&◌, ◌||◌, nat_lt, IsTrue, IsFalse, if◌then◌else◌, Option, None, Some, is_some, option_map, Result, Ok, Err}
+-- What ktmatch does.
+use Rattle.std.specs.Prelude.{◌≡◌, ◌⊎◌, ◌==◌, ℕ, max, List, [], ◌∷◌, ◌++◌, length, fold, Bool, true, false, not, ◌&&◌, ◌||◌, nat_lt, IsTrue, IsFalse, if◌then◌else◌, Option, None, Some, is_some, option_map, Result, Ok, Err}
 use Rattle.std.specs.List.{flat_map, list_any}
 use Rattle.std.specs.Option.{option_map_or}
-use Rattle.std.specs.Vec.{vec_items}
 use Rattle.krb_walk.specs.Store.{fault_of}
 use Rattle.krb_walk.specs.declared.fault.Fault.{Fault}
 use Rattle.krb_keytab.specs.Store.{KeytabState}
@@ -29,7 +28,6 @@ use Rattle.krb_driver.specs.declared.verdict.TicketsSought.TheVariants.{Asked, O
 use Rattle.krb_driver.specs.declared.verdict.Verdict.TheVariants.{Judged}
 use Rattle.krb_driver.specs.Commands.{CommandPlan, Displays, Fails, Finishes, GivesOf, Page, text, tries}
 use Rattle.krb_driver.specs.Loading.{matched_in, whole_in}
-use Rattle.krb_driver.specs.Mistakes.{ArePrintedNames, Matched, MistakeParts, bad_name, first_mistake, v1_order}
 use Rattle.krb_driver.specs.RunErrors.{Ending, verdict_status}
 use Rattle.krb_driver.specs.Runs.{ErrorWatch, NamesNear, Reports}
 use Rattle.krb_driver.specs.Several.{Round, RunsOver, first_round, is_last, label_of}
@@ -37,7 +35,7 @@ use Rattle.krb_readers.specs.Ktcheck.{refused_effect}
 use Rattle.krb_readers.specs.declared.ktmatch.command.MatchFiles.{MatchFiles}
 use Rattle.krb_readers.specs.declared.ktmatch.page.MatchObject.{MatchObject}
 use Rattle.krb_readers.specs.declared.ktmatch.state.MatchState.{MatchState}
-use Rattle.krb_readers.specs.declared.ktmatch.words.MatchOptions.{MatchOptions}
+use Rattle.krb_readers.specs.KtmatchWords.{TicketMatch}
 
 -- ---- the lines of a cache
 
@@ -68,11 +66,11 @@ abbrev pub are_wrong : List MatchedParts → Bool
 are_wrong ts = list_any (λ t. is_wrong t.judgement) ts
 
 -- which tickets are sought
-abbrev pub sought : {A : Type 0} → MatchOptions A → TicketsSought
-sought o = if length o.names.items == 0 then OfServices else Asked
+abbrev pub sought : TicketMatch → TicketsSought
+sought o = if length o.names == 0 then OfServices else Asked
 
 -- the words of what is shown: of JSON all, or none if its object is left out
-abbrev pub words_shown : {A : Type 0} → MatchOptions A → Bool → List MatchedParts → FindingSet
+abbrev pub words_shown : TicketMatch → Bool → List MatchedParts → FindingSet
 words_shown o wrong ts = if o.json && (o.quiet && not wrong) then none else words_of (o.quiet && not o.json) ts
 
 -- something is wrong: a ticket, the fault, or that no ticket of the only cache was looked at
@@ -80,7 +78,7 @@ abbrev pub is_found_wrong : Bool → List MatchedParts → Option Fault → Bool
 is_found_wrong are_several ts fault = are_wrong ts || (is_some fault || ((length ts == 0) && not are_several))
 
 -- the verdict on tickets of one of several caches, or of the only one, if that is known of the caches before
-abbrev pub judged_of : {A : Type 0} → MatchOptions A → Bool → MatchState → List MatchedParts → Option ℕ → Option Fault → Found
+abbrev pub judged_of : TicketMatch → Bool → MatchState → List MatchedParts → Option ℕ → Option Fault → Found
 judged_of o are_several before ts near fault = record {
   words = without (words_shown o (is_found_wrong are_several ts fault) ts) before.explained;
   near = if before.is_named then None else near;
@@ -99,7 +97,7 @@ object_page keytab j file ts = record {
   takes = true;
 }
 
-module _ {A : Type 0} (o : MatchOptions A) (keytab : List ℕ) (are_several : Bool) where
+module _ (o : TicketMatch) (keytab : List ℕ) (are_several : Bool) where
   -- the page of lines, or of a JSON object, which is left out with `-q` if nothing is wrong
   abbrev pub page_of : List ℕ → List MatchedParts → Found → Page
   page_of file ts j =
@@ -110,9 +108,8 @@ module _ {A : Type 0} (o : MatchOptions A) (keytab : List ℕ) (are_several : Bo
     -- the page of a cache, by entries and whether one is named
     abbrev pub page_due : List ℕ → CacheState → Page
     page_due file k =
-        let names : List (List ℕ) = map vec_items o.names.items in
-        let ts : List MatchedParts = matched_tickets names m.0 k in
-        page_of file ts (judged_of o are_several s ts (near_ticket m.1 names m.0 k) (fault_of (cache_store k)))
+        let ts : List MatchedParts = matched_tickets o.names m.0 k in
+        page_of file ts (judged_of o are_several s ts (near_ticket m.1 o.names m.0 k) (fault_of (cache_store k)))
 
     -- a cache is tried, and what the keytab says of its tickets is shown
     abbrev pub match_plan : FileName → CommandPlan
@@ -135,7 +132,7 @@ first_state = record { explained = none; is_named = false; is_without = false; i
 
 -- the lines of a cache among several are those of the cache alone, each after its name
 abbrev pub LinesAreOfEach : Type 0
-LinesAreOfEach = (o : MatchOptions (Unit {0})) (keytab : List ℕ) (m : KeytabState × Bool) (s : MatchState) (file : List ℕ) (k : CacheState) → o.json ≡ false → (page_due o keytab true m s file k).out ≡ (page_due (record o { with_filename = true }) keytab false m first_state file k).out
+LinesAreOfEach = (o : TicketMatch) (keytab : List ℕ) (m : KeytabState × Bool) (s : MatchState) (file : List ℕ) (k : CacheState) → o.json ≡ false → (page_due o keytab true m s file k).out ≡ (page_due (record o { with_filename = true }) keytab false m first_state file k).out
 
 -- the verdict of a cache's run, unless an error ended it
 abbrev pub judged_by : Ending → Option Found
@@ -212,33 +209,19 @@ module _ {F R W E : Type 0} (trait : Ghosts F) where
     pub status_is : status ≡ end.status
 
   -- the tickets of caches are matched with a keytab
-  pub record MatchesCaches {B : Type 0} (o : MatchOptions B) (keytab : List ℕ) (m : KeytabState × Bool) (names : List FileName) (old new : World F R W E) (status : ℕ) : Type 0 where
+  pub record MatchesCaches (o : TicketMatch) (keytab : List ℕ) (m : KeytabState × Bool) (names : List FileName) (old new : World F R W E) (status : ℕ) : Type 0 where
     pub ran : Round MatchState F R W E
     pub each : MatchesEach m.0 (match_plan o keytab (nat_lt 1 (length names)) m) names (first_round first_state old) ran
     pub ends : EndsMatches (sought o) names ran.state ran.status ran.world new status
 
   -- so they are with what the load of the keytab gave, or memory ran out; or its error ends the run
-  abbrev pub MatchesGiven : {B : Type 0} → MatchOptions B → List ℕ → List FileName → World F R W E → World F R W E → ℕ → Result KeytabState (List ℕ × RunError) → Type 0
+  abbrev pub MatchesGiven : TicketMatch → List ℕ → List FileName → World F R W E → World F R W E → ℕ → Result KeytabState (List ℕ × RunError) → Type 0
   MatchesGiven o keytab names old new status (Err met) = EndsBy met.0 met.1 old new status
   MatchesGiven o keytab names old new status (Ok k) = EndsBy [] error.NoMemory old new status ⊎ MatchesCaches o keytab (k, old.err.explains) names old new status
 
   -- a keytab without damage is loaded, and the tickets of caches are matched with it, one cache after the other
-  pub record MatchesAll {B : Type 0} (o : MatchOptions B) (keytab : FileName) (old new : World F R W E) (status : ℕ) (names : List FileName) : Type 0 where
+  pub record MatchesAll (o : TicketMatch) (keytab : FileName) (old new : World F R W E) (status : ℕ) (names : List FileName) : Type 0 where
     pub given : Result KeytabState (List ℕ × RunError)
     pub files : F
     pub gives : GivesOf trait old.files keytab (whole_in o.v1_order) given files
     pub goes_on : MatchesGiven o keytab.name.now names (record old { files = files }) new status given
-
--- ---- what the words of ktmatch ask for
-
--- the first mistake: in a name
-abbrev pub match_mistake : Matched → Option MistakeParts
-match_mistake words = first_mistake bad_name (words.values (codes "principal"))
-
--- each option is what its own word spells
-pub record SpellsMatch {A : Type 0} (words : Matched) (o : MatchOptions A) : Type 0 where
-  pub v1_order : o.v1_order ≡ v1_order words
-  pub quiet : o.quiet ≡ words.flag (codes "quiet")
-  pub json : o.json ≡ words.flag (codes "json")
-  pub with_filename : o.with_filename ≡ words.flag (codes "with-filename")
-  pub names : ArePrintedNames (words.values (codes "principal")) o.names

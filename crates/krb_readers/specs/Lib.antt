@@ -2,7 +2,9 @@
 pub mod Klist
 pub mod Overview
 pub mod Ktfind
+pub mod KtmatchWords
 pub mod Ktmatch
+pub mod KtcheckWords
 pub mod Ktcheck
 pub mod Show
 

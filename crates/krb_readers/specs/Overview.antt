@@ -1,5 +1,5 @@
 -- What `klist -l` does.
-use Rattle.std.specs.Prelude.{◌≡◌, ◌⊎◌, ◌<◌, ◌-◌, ◌^◌, ℕ, min, List, [], ◌++◌, length, drop, filter, codes, Bool, not, if◌then◌else◌, Option, None, Some, Ok}
+use Rattle.std.specs.Prelude.{◌≡◌, ◌⊎◌, ◌<◌, ◌-◌, ◌^◌, ℕ, min, List, [], ◌++◌, length, drop, filter, codes, Bool, not, if◌then◌else◌, Option, None, Some, Result, Ok}
 use Rattle.std.specs.Option.{option_or}
 use Rattle.krb_wire.specs.Names.{name_text}
 use Rattle.krb_ccache.specs.Store.{CacheState, placed_credentials}
@@ -15,6 +15,7 @@ use Rattle.krb_driver.specs.Commands.{CommandPlan, Displays, Effect, EndsBefore,
 use Rattle.krb_driver.specs.FileNames.{shown_name}
 use Rattle.krb_driver.specs.Loading.{cache_of}
 use Rattle.krb_driver.specs.Mistakes.{Matched, MistakeParts, typed}
+use Rattle.krb_driver.specs.Spelled.{◌>>◌}
 use Rattle.krb_driver.specs.Several.{RunsOver, first_round}
 use Rattle.krb_readers.specs.Klist.{apart, has_ticket, is_ticket, last_end, odd_columns, odd_seconds}
 
@@ -79,6 +80,9 @@ odd_with_list words =
     (option_or (apart words (list words) (codes "keys") (codes "-K") (codes "--keys"))
     (apart words (list words) (codes "v1-big") (codes "--v1-big") (codes "--v1-big"))))))
 
--- the first mistake of the words
-abbrev pub overview_mistake : Matched → Option MistakeParts
-overview_mistake words = option_or (odd_seconds words) (odd_with_list words)
+-- whether the words of `klist -l` ask for JSON, or their first mistake
+abbrev pub overview_of : Matched → Result Bool MistakeParts
+overview_of words = do
+  odd_seconds words
+  odd_with_list words
+  Ok (words.flag (codes "json"))

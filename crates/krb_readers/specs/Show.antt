@@ -1,5 +1,5 @@
 -- What show does.
-use Rattle.std.specs.Prelude.{ℕ, nat_lt, List, ◌++◌, length, codes, Bool, false, ◌&&◌, if◌then◌else◌, Option, None, Some}
+use Rattle.std.specs.Prelude.{ℕ, nat_lt, List, ◌++◌, length, codes, Bool, false, ◌&&◌, if◌then◌else◌, Option, None, Some, Result, Ok}
 use Rattle.krb_wire.specs.declared.format.Order.{Order}
 use Rattle.krb_files.specs.declared.files.Files.{Ghosts}
 use Rattle.krb_files.specs.Plan.{Ends}
@@ -13,6 +13,7 @@ use Rattle.krb_driver.specs.declared.verdict.FileKind.TheVariants.{Keytab, Cache
 use Rattle.krb_driver.specs.Commands.{CommandPlan, Displays, Effect, EndsBefore, always, opens, text}
 use Rattle.krb_driver.specs.Either.{EitherState, OfKeytab, OfCache, contents_in, damage_of}
 use Rattle.krb_driver.specs.FileNames.{shown_name}
+use Rattle.krb_driver.specs.Spelled.{◌>>◌}
 use Rattle.krb_driver.specs.Mistakes.{does_not_go_with, Matched, MistakeParts, typed, v1_order}
 use Rattle.krb_driver.specs.RunErrors.{listing_verdict}
 use Rattle.krb_driver.specs.Several.{RunsOver, first_round}
@@ -59,6 +60,6 @@ show_mistake words =
 abbrev pub default_kind : Matched → FileKind
 default_kind words = if words.flag (codes "keytab") then Keytab else Cache
 
--- the options
-abbrev pub show_options : Matched → ShowOptions
-show_options words = record { default = default_kind words; v1_order = v1_order words }
+-- what the words of show ask for, or their mistake
+abbrev pub show_of : Matched → Result ShowOptions MistakeParts
+show_of words = show_mistake words >> Ok (record { default = default_kind words; v1_order = v1_order words })

@@ -1,9 +1,8 @@
 //! ktfind: looks up an entry in a keytab.
 
-ghost use Rattle.std.specs.Prelude.{◌≡◌};
 ghost use Rattle.krb_driver.specs.Commands.{Runs, always, any, text_effect, IsMade};
-ghost use Rattle.krb_readers.specs.Ktfind.{SpellsEntry, find_mistake, finds, ktfind_plan};
-ghost use Rattle.krb_driver.specs.Mistakes.{Reads};
+ghost use Rattle.krb_readers.specs.Ktfind.{entry_sought_of, finds, ktfind_plan};
+ghost use Rattle.krb_driver.specs.Spelled.{ReadsAs};
 
 use krb_driver::{
     Command, CommandName, CommandWords, FileError, FileName, Made, MakeResult, Matches, Output,
@@ -17,6 +16,7 @@ use krb_text::parse_u32;
 use krb_wire::{Order, Principal};
 use std::alloc::{Allocator, Global};
 use std::io::{Read, Write};
+use std::marker::Model;
 
 /// The words of ktfind.
 pub const KTFIND: CommandWords = CommandWords {
@@ -56,12 +56,26 @@ pub struct FindOptions<A: Allocator> {
     pub v1_order: Order,
 }
 
+impl<A: Allocator> Model for FindOptions<A> {
+    ghost use Rattle.krb_wire.specs.Reading.{principal_parts};
+    ghost use Rattle.krb_readers.specs.Ktfind.{EntrySought};
+
+    ghost Value = { EntrySought };
+
+    ghost view = { λ o. record {
+      name = principal_parts o.name;
+      kvno = o.kvno;
+      enctype = o.enctype;
+      v1_order = o.v1_order;
+    } };
+}
+
 /// Parses the words of ktfind: a kvno, an enctype, and a principal with its realm.
 pub fn find_options<'a, M: Matches<'a>>(
     alloc: Global,
     matches: &M,
 ) -> Result<FindOptions<Global>, WordFault<'a>>
-    ensures { Reads (find_mistake (M.matched matches.now)) (SpellsEntry (M.matched matches.now)) result }
+    ensures { ReadsAs (entry_sought_of (M.matched matches.now)) result }
 {
     let version = matches.operand("KVNO");
     let Some(kvno) = parse_u32(version.as_bytes()) else {

@@ -13,7 +13,7 @@ use Rattle.krb_audit.specs.Findings.{is_out}
 use Rattle.krb_editors.specs.declared.removing.FilesSeen.TheVariants as seen
 use Rattle.krb_driver.specs.declared.command.World.{World}
 use Rattle.krb_driver.specs.Several.{first_round, is_last}
-use Rattle.krb_editors.specs.declared.ccremove.TicketOptions.{TicketOptions}
+use Rattle.krb_editors.specs.Ccremove.{TicketRemoval}
 use Rattle.samples.proofs.Unfolded.{on_literals}
 
 -- ---- statuses
@@ -69,7 +69,7 @@ age-without-clock = refl
 old-without-clock : needed_time (Old None) None ≡ Ok 0
 old-without-clock = refl
 
-expired-without-clock : {A : Type 0} (o : TicketOptions A) → o.expired ≡ true → ended_by o None ≡ Err error.ClockNotRead
+expired-without-clock : (o : TicketRemoval) → o.expired ≡ true → ended_by o None ≡ Err error.ClockNotRead
 expired-without-clock o is = rw is refl
 
 -- ---- hold

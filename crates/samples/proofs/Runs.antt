@@ -1,79 +1,45 @@
 -- What a run of a command comes to if no call fails: what it prints, how it ends, and its files afterwards.
-use Rattle.samples.proofs.Cited.{arith, refl, filter_map, flat_map, list_any, ◌≡◌, ℕ, ◌+◌, ◌<◌, ◌≤◌, ◌^◌, max, List, [], ◌∷◌, ◌++◌, codes, length, map, fold, Bool, true, false, nat_lt, Option, None, Some, option_and_then, option_map, unwrap_or, Result, Ok, Err, if◌then◌else◌, Vec, slice_get, nat_eq, filter, ◌&&◌, Any, Newest, Well, ccremove_plan, most_bytes, KeytabState, name_of, Parts, FileMap, loaded, node_of, etype_in, number_in, seconds_in, RunEnd, NothingSelected, OtherType, FileName, LikePrincipal, Word, Ending, ending_status, error_of_name, ending_text, near_words, words_if, is_missing, missing_error, is_none, seen_after, ktremove_plan, old_kvno, quiet_run, talk_due, frame, most_frame, held_in, received, hold_kind, held_file_kind, HoldEnd, about_end, end_of_hold, last_line}
+use Rattle.samples.proofs.Cited.{filter_map, flat_map, list_any, ℕ, ◌+◌, max, List, [], ◌∷◌, ◌++◌, codes, length, map, fold, Bool, false, nat_lt, Option, None, Some, option_map, unwrap_or, Result, Ok, Err, if◌then◌else◌, slice_get, nat_eq, filter, ◌&&◌, Well, ccremove_plan, most_bytes, KeytabState, FileMap, loaded, node_of, RunEnd, NothingSelected, OtherType, FileName, LikePrincipal, Word, Ending, ending_status, error_of_name, ending_text, near_words, words_if, is_missing, missing_error, is_none, seen_after, ktremove_plan, quiet_run, talk_due, frame, most_frame, held_in, received, held_file_kind, HoldEnd, about_end, end_of_hold, last_line}
 use Rattle.krb_driver.specs.Commands.{CommandPlan, Effect, Fails, Displays, Saves, files_after, opens}
 use Rattle.krb_keytab_text.specs.Script.{event_in}
 use Rattle.krb_findings.specs.Table.{none}
 use Rattle.std.specs.Str.{bytes_eq}
 use Rattle.std.specs.Option.{option_map_or}
-use denote.RawPtr.{null_ptr}
-use lib.Dec.{lit<, lit≤}
-use Rattle.krb_wire.specs.declared.principal.Principal.{Principal}
 use Rattle.krb_files.specs.Plan.{Ends, follow, with_bytes}
 use Rattle.krb_cache_text.specs.Script.{cache_line_in}
-use Rattle.krb_audit.specs.declared.selection.SelectedKvno.{SelectedKvno}
-use Rattle.krb_audit.specs.declared.selection.Selection.{Selection}
 use Rattle.krb_driver.specs.declared.error.RunError.{RunError}
 use Rattle.krb_driver.specs.declared.reporting.details.Details.{Details}
 use Rattle.krb_driver.specs.declared.verdict.FileKind.{FileKind}
 use Rattle.krb_driver.specs.declared.verdict.FileKind.TheVariants.{Keytab, Cache, Either}
 use Rattle.krb_driver.specs.FileNames.{bare_name, is_other_type}
-use Rattle.krb_driver.specs.Mistakes.{Matched, first_value, printed_name, v1_order}
+use Rattle.krb_driver.specs.Messages.{message}
+use Rattle.krb_driver.specs.Mistakes.{Matched, MistakeParts, help_of, mistake_line, v1_order}
 use Rattle.krb_driver.specs.Loading.{result_map, result_map_err, whole_in}
 use Rattle.krb_driver.specs.Effects.{about, ending_of, saves_unless}
-use Rattle.krb_readers.specs.Ktcheck.{aged_by, explained_after, findings, plan_of as check_plan}
-use Rattle.krb_readers.specs.declared.ktcheck.words.CheckOptions.{CheckOptions}
-use Rattle.krb_readers.specs.Klist.{file_kind, klist_plan, list_kind, list_options, printed_after, check_of, check_status}
+use Rattle.krb_readers.specs.Ktcheck.{aged_by, explained_after, plan_of as check_plan}
+use Rattle.krb_readers.specs.KtcheckWords.{keytab_check_of}
+use Rattle.krb_readers.specs.Klist.{check_status, file_kind, klist_plan, listing_of, printed_after, ticket_check_of}
 use Rattle.krb_match.specs.Names.{entry_text}
 use Rattle.krb_driver.specs.EndingWords.{found_fault_words}
 use Rattle.krb_readers.specs.Ktmatch.{first_state, is_none as is_none_matched, match_plan, none_error, sought, state_after}
 use Rattle.krb_readers.specs.declared.ktmatch.state.MatchState.{MatchState}
-use Rattle.krb_readers.specs.declared.ktmatch.words.MatchOptions.{MatchOptions}
-use Rattle.krb_readers.specs.Overview.{heading, overview_plan}
-use Rattle.krb_readers.specs.Show.{show_plan}
-use Rattle.krb_readers.specs.Ktfind.{ktfind_plan}
+use Rattle.krb_readers.specs.KtmatchWords.{ticket_match_of}
+use Rattle.krb_readers.specs.Overview.{heading, overview_of, overview_plan}
+use Rattle.krb_readers.specs.Show.{show_of, show_plan}
+use Rattle.krb_readers.specs.Ktfind.{entry_sought_of, ktfind_plan}
 use Rattle.krb_editors.specs.Ccedit.{ccedit_plan}
-use Rattle.krb_editors.specs.Ktcopy.{ktcopy_plan}
-use Rattle.krb_editors.specs.Ktdiff.{ktdiff_plan}
+use Rattle.krb_editors.specs.Ccremove.{ticket_removal_of}
+use Rattle.krb_editors.specs.Hold.{hold_of}
+use Rattle.krb_editors.specs.Ktcopy.{copy_of, ktcopy_plan}
+use Rattle.krb_editors.specs.Ktdiff.{comparison_of, ktdiff_plan}
 use Rattle.krb_editors.specs.Ktedit.{ktedit_plan}
 use Rattle.krb_editors.specs.declared.removing.FilesSeen.{FilesSeen}
 use Rattle.krb_editors.specs.declared.removing.FilesSeen.TheVariants as seen
 use Rattle.krb_editors.specs.Sessions.{lines_in}
-use Rattle.krb_editors.specs.Selecting.{kvno_in}
+use Rattle.krb_editors.specs.Ktremove.{removal_of}
 use Rattle.krb_editors.specs.declared.hold.last_line.Outcome.TheVariants.{Saved, Left}
 use Rattle.krb_ktutil.specs.declared.ktutil.awaiting.Awaiting.TheVariants.{Nothing}
 use Rattle.krb_ktutil.specs.InputLines.{lines_of}
-
--- ---- values of the code's types
-
--- what a comparison says
-pub few : {m n : ℕ} → (nat_lt m n ≡ true) → m < n
-few is_less = grind (arith)
-
--- a number is at most itself
-pub same : {n : ℕ} → n ≤ n
-same = grind (arith)
-
--- these items as a vector, by whether they are few enough for one
-abbrev vec_by : {X : Type 0} → (xs : List X) → (is_small : Bool) → (nat_lt (length xs) (2 ^ 63) ≡ is_small) → Vec X (Unit {0})
-vec_by xs true small = record { ptr = null_ptr; len = length xs; cap = length xs; alloc = tt; items = xs; ok = (refl, same); small = few small }
-vec_by xs false small = record { ptr = null_ptr; len = 0; cap = 0; alloc = tt; items = []; ok = (refl, lit≤ tt); small = lit< tt }
-
--- these items as a vector, if they are not too many for one
-abbrev vec : {X : Type 0} → List X → Vec X (Unit {0})
-vec xs = vec_by xs (nat_lt (length xs) (2 ^ 63)) refl
-
--- a name as the code has it
-abbrev principal : Parts → Principal (Unit {0})
-principal p = record { name_type = p.name_type; realm = vec p.realm; components = vec (map vec p.components) }
-
--- the name that a word spells, if it spells one
-abbrev principal_of : {E : Type 0} → Result Parts E → Option (Principal (Unit {0}))
-principal_of (Ok p) = Some (principal p)
-principal_of (Err fault) = None
-
--- the texts that the names which words spell print as
-abbrev names_of : List (List ℕ) → Vec (Vec ℕ (Unit {0})) (Unit {0})
-names_of words = vec (map vec (filter_map printed_name words))
 
 -- the name of a file, as a word gives it
 abbrev named : Bool → FileKind → List ℕ → FileName
@@ -87,13 +53,13 @@ named in_place kind word = record {
 
 -- ---- command lines
 
--- the words of a command line: its flags, and the values of its options and operands, by the names of these
-abbrev pub words : List (List ℕ) → List (List ℕ × List ℕ) → Matched
-words flags given = record {
+-- the words of a command line: its flags, the values of its options and operands, by the names of these, and the long names on it
+abbrev pub words : List (List ℕ) → List (List ℕ × List ℕ) → List (List ℕ) → Matched
+words flags given long = record {
   flag = λ name. list_any (bytes_eq name) flags;
   operand = λ name. unwrap_or (slice_get (values_of name) 0) [];
   values = values_of;
-  is_long = λ name. false;
+  is_long = λ name. list_any (bytes_eq name) long;
 } where
   values_of : List ℕ → List (List ℕ)
   values_of name = filter_map (λ x. if bytes_eq name x.0 then Some x.1 else None) given
@@ -105,18 +71,6 @@ operands ws kind = map (named (ws.flag (codes "in-place")) kind) (ws.values (cod
 -- the file that an operand names
 abbrev operand : Matched → FileKind → List ℕ → FileName
 operand ws kind name = named (ws.flag (codes "in-place")) kind (ws.operand name)
-
--- the kvnos that `-k` selects: a number, or the word for some of them
-abbrev kvno_of : List ℕ → SelectedKvno → Matched → SelectedKvno
-kvno_of word some ws = unwrap_or (option_and_then (kvno_in word some) (first_value ws (codes "kvno"))) Any
-
--- the entries that options select, with those kvnos
-abbrev selection : SelectedKvno → Matched → Selection (Unit {0})
-selection kvno ws = record {
-  names = names_of (ws.values (codes "principal"));
-  kvno = kvno;
-  enctypes = vec (filter_map etype_in (ws.values (codes "enctype")));
-}
 
 -- ---- what is seen of a run
 
@@ -174,6 +128,16 @@ over explains plan after said last state files (file ∷ names) =
     let next = after state (record { ending = ending_of effect; status = first.status }) in
     followed_by (record first { err = first.err ++ said next file.name.now }) (over explains plan after said last next first.files names)
 
+-- a run with what the words of a line spell; or their mistake is reported, and nothing is done
+abbrev by_words : {X : Type 0} → Bool → List ℕ → FileMap → Result X MistakeParts → (X → Seen) → Seen
+by_words explains command files (Ok x) run = run x
+by_words explains command files (Err mistake) run = record {
+  out = [];
+  err = message (codes "bad command line") ++ words_if explains (codes "krbfile: " ++ (mistake_line mistake ++ help_of (Some command)));
+  status = 2;
+  files = files;
+}
+
 -- the same if nothing is said after a file and at the end
 abbrev over_all : {S : Type 0} → Bool → (S → FileName → CommandPlan) → (S → RunEnd → S) → S → FileMap → List FileName → Seen
 over_all explains plan after = over explains plan after (λ state file. []) (λ state. ends explains [] [] (Ok Well))
@@ -181,61 +145,34 @@ over_all explains plan after = over explains plan after (λ state file. []) (λ 
 -- ---- the commands, over files
 
 abbrev pub klist : Bool → FileMap → Matched → Seen
-klist explains files ws = over_all explains (klist_plan (list_options ws)) printed_after false files (operands ws (file_kind (list_kind ws)))
+klist explains files ws = by_words explains (codes "klist") files (listing_of ws) (λ o. over_all explains (klist_plan o) printed_after false files (operands ws (file_kind o.kind)))
 
 -- `klist -l` at a second
 abbrev pub klist_overview : Bool → ℕ → FileMap → Matched → Seen
 klist_overview explains now files ws =
-    followed_by (ends explains (heading (ws.flag (codes "json"))) [] (Ok Well) files)
-    (over_all explains (λ state. overview_plan (ws.flag (codes "json")) now) (λ state end. state) (tt {0}) files (operands ws Cache))
+    by_words explains (codes "klist") files (overview_of ws) (λ json. followed_by (ends explains (heading json) [] (Ok Well) files)
+    (over_all explains (λ state. overview_plan json now) (λ state end. state) (tt {0}) files (operands ws Cache)))
 
 -- `klist -s` at a second: it prints nothing
-abbrev pub klist_silent : ℕ → FileMap → Matched → Seen
-klist_silent now files ws =
+abbrev pub klist_silent : Bool → ℕ → FileMap → Matched → Seen
+klist_silent explains now files ws =
     let file = operand ws Cache (codes "FILE") in
-    let status = if file.is_other_type then 1 else check_status (now + (check_of ws).seconds) (loaded (files file.name.now) most_bytes) in
-    record { out = []; err = []; status = status; files = files }
+    by_words explains (codes "klist") files (ticket_check_of ws) (λ check.
+    let status = if file.is_other_type then 1 else check_status (now + check.seconds) (loaded (files file.name.now) most_bytes) in
+    record { out = []; err = []; status = status; files = files })
 
 -- at a second
 abbrev pub show : Bool → ℕ → FileMap → Matched → Seen
-show explains now files ws = over_all explains (show_plan (v1_order ws) now) printed_after false files (operands ws Either)
+show explains now files ws = by_words explains (codes "show") files (show_of ws) (λ o. over_all explains (show_plan o.v1_order now) printed_after false files (operands ws Either))
 
 abbrev pub ktfind : Bool → FileMap → Matched → Seen
-ktfind explains files ws = option_map_or (λ name. follows explains files (ktfind_plan (record {
-  name = name;
-  kvno = unwrap_or (number_in 32 (ws.operand (codes "KVNO"))) 0;
-  enctype = unwrap_or (etype_in (ws.operand (codes "ETYPE"))) 0;
-  v1_order = v1_order ws;
-}) (operand ws Keytab (codes "FILE")))) (principal_of (name_of (ws.operand (codes "NAME")) None)) (ends explains [] [] (Ok Well) files)
-
--- the options of ktcheck
-abbrev check_options : Matched → CheckOptions (Unit {0})
-check_options ws = record {
-  v1_order = v1_order ws;
-  quiet = ws.flag (codes "quiet");
-  json = ws.flag (codes "json");
-  with_filename = ws.flag (codes "with-filename");
-  allowed = findings (ws.values (codes "allow"));
-  older = option_and_then seconds_in (first_value ws (codes "older"));
-  wanted = names_of (ws.values (codes "want"));
-}
+ktfind explains files ws = by_words explains (codes "ktfind") files (entry_sought_of ws) (λ o. follows explains files (ktfind_plan o (named false Keytab (ws.operand (codes "FILE")))))
 
 -- the files are plain with this mode; a finding is explained once
 abbrev pub ktcheck : Bool → ℕ → ℕ → FileMap → Matched → Seen
 ktcheck explains mode now files ws =
-    let o = check_options ws in
-    let are_several = nat_lt 1 (length (ws.values (codes "FILE"))) in
-    unless_fails explains [] files (λ by. over_all explains (λ explained file. check_plan o by are_several explained file (Some mode)) explained_after none files (operands ws Keytab)) (aged_by o.older (Some now))
-
--- the options of ktmatch
-abbrev match_options : Matched → MatchOptions (Unit {0})
-match_options ws = record {
-  v1_order = v1_order ws;
-  quiet = ws.flag (codes "quiet");
-  json = ws.flag (codes "json");
-  with_filename = ws.flag (codes "with-filename");
-  names = names_of (ws.values (codes "principal"));
-}
+    by_words explains (codes "ktcheck") files (keytab_check_of ws) (λ o. let are_several = nat_lt 1 (length (ws.values (codes "FILE"))) in
+    unless_fails explains [] files (λ by. over_all explains (λ explained file. check_plan o by are_several explained file (Some mode)) explained_after none files (operands ws Keytab)) (aged_by o.older (Some now)))
 
 -- what is said of a cache after its run
 abbrev said_of : KeytabState → MatchState → List ℕ → List ℕ
@@ -244,13 +181,13 @@ said_of k s file = option_map_or (λ found. near_words (option_map (entry_text k
 -- the tickets of caches are matched, one cache after the other, and at the end it is reported if there were none
 abbrev pub ktmatch : Bool → FileMap → Matched → Seen
 ktmatch explains files ws =
-    let o = match_options ws in
     let keytab = named false Keytab (ws.operand (codes "KEYTAB")) in
     let names = map (named false Cache) (ws.values (codes "CACHE")) in
+    by_words explains (codes "ktmatch") files (ticket_match_of ws) (λ o.
     let none = none_error (sought o) names in
     let last : MatchState → FileMap → Seen = λ s. if is_none_matched s then ends explains [] none.1 (Err none.0) else ends explains [] [] (Ok Well) in
     let given = if keytab.is_other_type then Err (OtherType Keytab Word) else result_map_err (error_of_name Word) (whole_in o.v1_order (loaded (files keytab.name.now) most_bytes)) in
-    unless_fails explains keytab.name.now files (λ k. over explains (match_plan o keytab.name.now (nat_lt 1 (length names)) (k, explains)) state_after (λ s file. words_if explains (said_of k s file)) last first_state files names) given
+    unless_fails explains keytab.name.now files (λ k. over explains (match_plan o keytab.name.now (nat_lt 1 (length names)) (k, explains)) state_after (λ s file. words_if explains (said_of k s file)) last first_state files names) given)
 
 abbrev pub ktedit : Bool → FileMap → List ℕ → Matched → Seen
 ktedit explains files script ws =
@@ -276,35 +213,17 @@ removes explains kind plan files ws =
 
 -- at a second, which is asked for with `--age` alone
 abbrev pub ktremove : Bool → ℕ → FileMap → Matched → Seen
-ktremove explains now files ws = removes explains Keytab (ktremove_plan (record {
-  selection = selection (kvno_of (codes "old") (old_kvno ws) ws) ws;
-  dry_run = ws.flag (codes "dry-run");
-  v1_order = v1_order ws;
-}) now) files ws
+ktremove explains now files ws = by_words explains (codes "ktremove") files (removal_of ws) (λ o. removes explains Keytab (ktremove_plan o now) files ws)
 
 -- at a second, which is asked for with `--expired` alone
 abbrev pub ccremove : Bool → ℕ → FileMap → Matched → Seen
-ccremove explains now files ws = removes explains Cache (ccremove_plan (record {
-  servers = names_of (ws.values (codes "service"));
-  all_services = ws.flag (codes "all-services");
-  expired = ws.flag (codes "expired");
-  dry_run = ws.flag (codes "dry-run");
-}) (if ws.flag (codes "expired") then Some now else None)) files ws
+ccremove explains now files ws = by_words explains (codes "ccremove") files (ticket_removal_of ws) (λ o. removes explains Cache (ccremove_plan o (if o.expired then Some now else None)) files ws)
 
 abbrev pub ktcopy : Bool → FileMap → Matched → Seen
-ktcopy explains files ws = follows explains files (ktcopy_plan (record {
-  selection = selection (kvno_of (codes "new") Newest ws) ws;
-  new_name = option_and_then (λ word. principal_of (name_of word None)) (first_value ws (codes "as"));
-  replace = ws.flag (codes "replace");
-  dry_run = ws.flag (codes "dry-run");
-  v1_order = v1_order ws;
-}) (named false Keytab (ws.operand (codes "FROM"))) (operand ws Keytab (codes "TO")))
+ktcopy explains files ws = by_words explains (codes "ktcopy") files (copy_of ws) (λ o. follows explains files (ktcopy_plan o (named false Keytab (ws.operand (codes "FROM"))) (operand ws Keytab (codes "TO"))))
 
 abbrev pub ktdiff : Bool → FileMap → Matched → Seen
-ktdiff explains files ws = follows explains files (ktdiff_plan (record {
-  selection = selection Any ws;
-  v1_order = v1_order ws;
-}) (named false Keytab (ws.operand (codes "A"))) (named false Keytab (ws.operand (codes "B"))))
+ktdiff explains files ws = by_words explains (codes "ktdiff") files (comparison_of ws) (λ o. follows explains files (ktdiff_plan o (named false Keytab (ws.operand (codes "A"))) (named false Keytab (ws.operand (codes "B")))))
 
 -- what hold does with a file by the image in it and by what the input gives
 abbrev exchanged : List ℕ → List ℕ → Result (Option (List ℕ)) RunError → Effect
@@ -319,13 +238,12 @@ hold_end (Saves file bytes out verdict) = Ok Saved
 
 -- with that input
 abbrev pub hold : Bool → FileMap → List ℕ → Matched → Seen
-hold explains files input ws =
-    let kind = hold_kind ws in
+hold explains files input ws = by_words explains (codes "hold") files (hold_of ws) (λ kind.
     let file = operand ws (held_file_kind kind) (codes "FILE") in
     let effect = follow files (opens file (held_in kind file.in_place) (λ image. Ends (exchanged file.name.now image (received kind (loaded (Some input) most_frame))))) in
     let end = hold_end effect in
     let run = ends explains (output effect) (about_end file.name.now end) (end_of_hold end) (files_after files effect) in
-    record run { out = run.out ++ last_line run.status None None end }
+    record run { out = run.out ++ last_line run.status None None end })
 
 -- the lines of an input at a second, without prompts
 abbrev pub ktutil : Bool → ℕ → FileMap → List ℕ → Matched → Seen

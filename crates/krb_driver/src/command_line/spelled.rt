@@ -1,10 +1,10 @@
 //! What words of a command line spell.
 
-ghost use Rattle.std.specs.Prelude.{◌≡◌, ◌++◌, ◌∷◌, [], IfOk, IsOkAnd};
-ghost use Rattle.krb_wire.specs.Names.{name_text};
+ghost use Rattle.std.specs.Prelude.{◌≡◌, ◌++◌, ◌∷◌, [], IfOk, IsOkAnd, map};
+ghost use Rattle.std.specs.Vec.{vec_items};
 ghost use Rattle.krb_wire.specs.Reading.{principal_parts};
-ghost use Rattle.krb_text.specs.Etype.{etype_in};
-ghost use Rattle.krb_driver.specs.Mistakes.{ArePrintedNames, AreSpelled, AreSpelledSeconds, IsSpelled, IsSpelledName, bad_etype, bad_name, bad_seconds, first_mistake, first_value, Spells, SpellsInMemory};
+ghost use Rattle.krb_driver.specs.Mistakes.{first_value};
+ghost use Rattle.krb_driver.specs.Spelled.{Spells, SpellsInMemory, each, printed_name, spelled_etype, spelled_name, spelled_seconds};
 
 use crate::command_line::matches::{Matches, first_value};
 use crate::command_line::mistake::{Mistake, Phrase};
@@ -17,7 +17,7 @@ pub type Spelled<'a, T> = Result<Result<T, NoMemory>, Mistake<'a>>;
 
 /// Parses a word as a principal name with a realm.
 pub fn spelled_name<'a>(alloc: Global, word: &'a str) -> Spelled<'a, Principal<Global>>
-    ensures { SpellsInMemory (bad_name word.now) (IsSpelledName word.now) result }
+    ensures { SpellsInMemory principal_parts (spelled_name word.now) result }
 {
     match parse_name(alloc, word.as_bytes(), None) {
         Ok(name) => Ok(Ok(name)),
@@ -26,14 +26,19 @@ pub fn spelled_name<'a>(alloc: Global, word: &'a str) -> Spelled<'a, Principal<G
     }
 }
 
-// Returns a name as it is printed.
-fn printed(alloc: Global, name: Result<Principal<Global>, NoMemory>) -> Result<Vec<u8>, NoMemory>
-    ensures { IfOk result (λ text. IsOkAnd name (λ name. text.items ≡ name_text (principal_parts name))) }
+// Parses a word as a principal name with a realm, and returns it as it is printed.
+#[tactic(auto, using(crate::proofs::Spelled::mapped_err))]
+fn printed_name<'a>(alloc: Global, word: &'a str) -> Spelled<'a, Vec<u8>>
+    ensures { SpellsInMemory vec_items (printed_name word.now) result }
 {
-    let name = name?;
+    let Ok(name) = spelled_name(alloc, word)? else {
+        return Ok(Err(NoMemory));
+    };
     let mut text = Vec::new(alloc);
-    write_name(&name, &mut text)?;
-    Ok(text)
+    match write_name(&name, &mut text) {
+        Ok(()) => Ok(Ok(text)),
+        Err(error) => Ok(Err(error)),
+    }
 }
 
 // Returns values with one more, unless an allocation failed for one of them.
@@ -54,21 +59,20 @@ pub fn spelled_names<'a, M: Matches<'a>>(
     matches: &M,
     option: &str,
 ) -> Spelled<'a, Vec<Vec<u8>>>
-    ensures { SpellsInMemory (first_mistake bad_name ((M.matched matches.now).values option.now))
-        (ArePrintedNames ((M.matched matches.now).values option.now)) result }
+    ensures { SpellsInMemory (λ names. map vec_items names.items) (each printed_name ((M.matched matches.now).values option.now)) result }
 {
     let words = matches.values(option);
     let mut names = Ok(Vec::new(alloc));
     'words: for word in words {
-        let name = spelled_name(alloc, *word)?;
-        names = added(names, printed(alloc, name));
+        let name = printed_name(alloc, *word)?;
+        names = added(names, name);
     }
     Ok(names)
 }
 
 /// Parses a word as an encryption type, by name or number.
 pub fn spelled_etype<'a>(word: &'a str) -> Result<u16, Mistake<'a>>
-    ensures { Spells (bad_etype word.now) (IsSpelled etype_in word.now) result }
+    ensures { Spells (spelled_etype word.now) result }
 {
     match etype_of(word.as_bytes()) {
         Some(etype) => Ok(etype),
@@ -82,8 +86,7 @@ pub fn spelled_etypes<'a, M: Matches<'a>>(
     matches: &M,
     option: &str,
 ) -> Spelled<'a, Vec<u16>>
-    ensures { SpellsInMemory (first_mistake bad_etype ((M.matched matches.now).values option.now))
-        (AreSpelled etype_in ((M.matched matches.now).values option.now)) result }
+    ensures { SpellsInMemory vec_items (each spelled_etype ((M.matched matches.now).values option.now)) result }
 {
     let words = matches.values(option);
     let mut etypes = Ok(Vec::new(alloc));
@@ -99,8 +102,7 @@ pub fn spelled_seconds<'a, M: Matches<'a>>(
     matches: &M,
     option: &str,
 ) -> Result<Option<u32>, Mistake<'a>>
-    ensures { Spells (bad_seconds (first_value (M.matched matches.now) option.now))
-        (AreSpelledSeconds (first_value (M.matched matches.now) option.now)) result }
+    ensures { Spells (spelled_seconds (first_value (M.matched matches.now) option.now)) result }
 {
     let Some(word) = first_value(matches, option) else {
         return Ok(None);

@@ -1,8 +1,8 @@
 //! The words of hold, and the kind of file that they ask for.
 
 ghost use Rattle.std.specs.Prelude.{◌≡◌};
-ghost use Rattle.krb_driver.specs.Mistakes.{Spells};
-ghost use Rattle.krb_editors.specs.Hold.{hold_kind, hold_mistake};
+ghost use Rattle.krb_driver.specs.Spelled.{Spells};
+ghost use Rattle.krb_editors.specs.Hold.{hold_of};
 
 use krb_driver::{
     CommandName, CommandWords, FileKind, IN_PLACE, Matches, Mistake, Phrase, V1_BIG, Word, v1_order,
@@ -61,7 +61,7 @@ impl HoldKind {
 
 /// Returns the kind of file that the words of hold ask for.
 pub fn hold_kind<'a, M: Matches<'a>>(matches: &M) -> Result<HoldKind, Mistake<'a>>
-    ensures { Spells (hold_mistake (M.matched matches.now)) (λ kind. kind ≡ hold_kind (M.matched matches.now)) result }
+    ensures { Spells (hold_of (M.matched matches.now)) result }
 {
     if matches.flag("keytab") {
         Ok(HoldKind::Keytab(v1_order(matches)))

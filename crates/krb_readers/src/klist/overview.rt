@@ -1,9 +1,10 @@
 //! klist -l: a line for each cache.
 
-ghost use Rattle.std.specs.Prelude.{◌≡◌, ◌++◌, OnOk, codes, false};
+ghost use Rattle.std.specs.Prelude.{◌≡◌, ◌++◌, OnOk, false};
 ghost use Rattle.krb_driver.specs.Commands.{IsMade, always, text_effect};
-ghost use Rattle.krb_driver.specs.Mistakes.{Refuses, Spells};
-ghost use Rattle.krb_readers.specs.Overview.{SurveysAll, heading, odd_with_list, overview_mistake, overview_plan, overview_text, padded, summary_of, surveys};
+ghost use Rattle.krb_driver.specs.Mistakes.{Refuses};
+ghost use Rattle.krb_driver.specs.Spelled.{Spells};
+ghost use Rattle.krb_readers.specs.Overview.{SurveysAll, heading, odd_with_list, overview_of, overview_plan, overview_text, padded, summary_of, surveys};
 ghost use Rattle.krb_wire.specs.Names.{name_text};
 
 use crate::klist::ticket_check::{SeenTickets, has_ticket};
@@ -35,7 +36,7 @@ fn refuse_with_list<'a, M: Matches<'a>>(matches: &M) -> Result<(), Mistake<'a>>
 
 /// Returns whether `klist -l` prints JSON. Refuses options that do not go together.
 pub fn overview_json<'a, M: Matches<'a>>(matches: &M) -> Result<bool, Mistake<'a>>
-    ensures { Spells (overview_mistake (M.matched matches.now)) (λ json. json ≡ (M.matched matches.now).flag (codes "json")) result }
+    ensures { Spells (overview_of (M.matched matches.now)) result }
 {
     refuse_odd_seconds(matches)?;
     refuse_with_list(matches)?;

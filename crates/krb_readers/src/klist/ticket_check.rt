@@ -3,8 +3,9 @@
 ghost use Rattle.std.specs.Prelude.{◌≡◌, [], ◌∷◌, List, Some};
 ghost use Rattle.krb_ccache.specs.Store.{CacheState, open_result, PlacedCredential, placed_credentials};
 ghost use Rattle.krb_files.specs.Loading.{most_bytes};
-ghost use Rattle.krb_readers.specs.Klist.{RunsTicketCheck, check_mistake, check_of, odd_files, odd_with_silent, opened_status, SeesSoFar, has_ticket, last_end, later, tgs_of};
-ghost use Rattle.krb_driver.specs.Mistakes.{Refuses, Spells};
+ghost use Rattle.krb_readers.specs.Klist.{RunsTicketCheck, odd_files, odd_with_silent, opened_status, SeesSoFar, has_ticket, last_end, later, tgs_of, ticket_check_of};
+ghost use Rattle.krb_driver.specs.Mistakes.{Refuses};
+ghost use Rattle.krb_driver.specs.Spelled.{Spells};
 ghost use Rattle.krb_wire.specs.Names.{have_same_name};
 
 use crate::klist::words::{refuse_columns, refuse_odd_seconds, refuse_with, refuse_with_cache};
@@ -44,7 +45,7 @@ fn refuse_several<'a, M: Matches<'a>>(matches: &M) -> Result<(), Mistake<'a>>
 /// Returns what `klist -s` asks for. Refuses options that do not go together, several files, and a time that cannot be
 /// read.
 pub fn ticket_check<'a, M: Matches<'a>>(matches: &M) -> Result<TicketCheck, Mistake<'a>>
-    ensures { Spells (check_mistake (M.matched matches.now)) (λ check. check ≡ check_of (M.matched matches.now)) result }
+    ensures { Spells (ticket_check_of (M.matched matches.now)) result }
 {
     refuse_odd_seconds(matches)?;
     refuse_with_silent(matches)?;

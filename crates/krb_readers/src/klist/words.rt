@@ -1,8 +1,9 @@
 //! The words of klist, and its options.
 
 ghost use Rattle.std.specs.Prelude.{◌≡◌};
-ghost use Rattle.krb_readers.specs.Klist.{apart, file_kind, list_kind, list_mistake, list_options, odd_columns, odd_option, odd_seconds, odd_with_cache};
-ghost use Rattle.krb_driver.specs.Mistakes.{Refuses, Spells};
+ghost use Rattle.krb_readers.specs.Klist.{apart, file_kind, list_kind, listing_of, odd_columns, odd_option, odd_seconds, odd_with_cache};
+ghost use Rattle.krb_driver.specs.Mistakes.{Refuses};
+ghost use Rattle.krb_driver.specs.Spelled.{Spells};
 
 use krb_cache_text::CcColumns;
 use krb_driver::{
@@ -183,7 +184,7 @@ fn list_kind<'a, M: Matches<'a>>(matches: &M) -> ListKind
 
 /// Returns the options of a listing. Refuses options that do not go together.
 pub fn klist_options<'a, M: Matches<'a>>(matches: &M) -> Result<KlistOptions, Mistake<'a>>
-    ensures { Spells (list_mistake (M.matched matches.now)) (λ options. options ≡ list_options (M.matched matches.now)) result }
+    ensures { Spells (listing_of (M.matched matches.now)) result }
 {
     refuse_odd_seconds(matches)?;
     refuse_odd_option(matches)?;

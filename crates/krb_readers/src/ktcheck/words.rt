@@ -1,8 +1,8 @@
 //! The words of ktcheck, and its options.
 
-ghost use Rattle.std.specs.Prelude.{◌≡◌, map};
-ghost use Rattle.krb_readers.specs.Ktcheck.{SpellsCheck, bad_finding, check_mistake, finding_set, findings};
-ghost use Rattle.krb_driver.specs.Mistakes.{first_mistake, Reads, Spells};
+ghost use Rattle.std.specs.Prelude.{map};
+ghost use Rattle.krb_readers.specs.KtcheckWords.{keytab_check_of, spelled_finding, spelled_findings};
+ghost use Rattle.krb_driver.specs.Spelled.{ReadsAs, Spells};
 
 use krb_driver::{
     CommandName, CommandWords, Matches, Mistake, Phrase, V1_BIG, Word, WordFault, refuse_twice,
@@ -11,6 +11,7 @@ use krb_driver::{
 use krb_findings::{Finding, FindingSet};
 use krb_wire::Order;
 use std::alloc::{Allocator, Global};
+use std::marker::Model;
 
 /// The words of ktcheck.
 pub const KTCHECK: CommandWords = CommandWords {
@@ -81,9 +82,27 @@ pub struct CheckOptions<A: Allocator> {
     pub wanted: Vec<Vec<u8, A>, A>,
 }
 
+impl<A: Allocator> Model for CheckOptions<A> {
+    ghost use Rattle.std.specs.Prelude.{map};
+    ghost use Rattle.std.specs.Vec.{vec_items};
+    ghost use Rattle.krb_readers.specs.KtcheckWords.{KeytabCheck};
+
+    ghost Value = { KeytabCheck };
+
+    ghost view = { λ o. record {
+      v1_order = o.v1_order;
+      quiet = o.quiet;
+      json = o.json;
+      with_filename = o.with_filename;
+      allowed = o.allowed;
+      older = o.older;
+      wanted = map vec_items o.wanted.items;
+    } };
+}
+
 // Returns the finding with that word.
 fn finding<'a>(word: &'a str) -> Result<FindingSet, Mistake<'a>>
-    ensures { Spells (bad_finding word.now) (λ found. found ≡ finding_set word.now) result }
+    ensures { Spells (spelled_finding word.now) result }
 {
     match Finding::named(word) {
         Some(finding) => Ok(FindingSet::only_if(true, finding)),
@@ -93,8 +112,7 @@ fn finding<'a>(word: &'a str) -> Result<FindingSet, Mistake<'a>>
 
 // Returns the findings with those words.
 fn findings<'a>(words: &[&'a str]) -> Result<FindingSet, Mistake<'a>>
-    ensures { Spells (first_mistake bad_finding (map (λ word. word.now) words.now))
-        (λ found. found ≡ findings (map (λ word. word.now) words.now)) result }
+    ensures { Spells (spelled_findings (map (λ word. word.now) words.now)) result }
 {
     let mut findings = FindingSet::none();
     'words: for word in words {
@@ -109,7 +127,7 @@ pub fn check_options<'a, M: Matches<'a>>(
     alloc: Global,
     matches: &M,
 ) -> Result<CheckOptions<Global>, WordFault<'a>>
-    ensures { Reads (check_mistake (M.matched matches.now)) (SpellsCheck (M.matched matches.now)) result }
+    ensures { ReadsAs (keytab_check_of (M.matched matches.now)) result }
 {
     refuse_twice(matches, "older", "--older", "--older")?;
     let allowed = findings(matches.values("allow"))?;

@@ -1,13 +1,14 @@
 //! The words of ktmatch, and its options.
 
-ghost use Rattle.krb_driver.specs.Mistakes.{Reads};
-ghost use Rattle.krb_readers.specs.Ktmatch.{SpellsMatch, match_mistake};
+ghost use Rattle.krb_driver.specs.Spelled.{ReadsAs};
+ghost use Rattle.krb_readers.specs.KtmatchWords.{ticket_match_of};
 
 use krb_driver::{
     CommandName, CommandWords, Matches, V1_BIG, Word, WordFault, spelled_names, v1_order,
 };
 use krb_wire::Order;
 use std::alloc::{Allocator, Global};
+use std::marker::Model;
 
 /// The words of ktmatch.
 pub const KTMATCH: CommandWords = CommandWords {
@@ -69,12 +70,28 @@ pub struct MatchOptions<A: Allocator> {
     pub names: Vec<Vec<u8, A>, A>,
 }
 
+impl<A: Allocator> Model for MatchOptions<A> {
+    ghost use Rattle.std.specs.Prelude.{map};
+    ghost use Rattle.std.specs.Vec.{vec_items};
+    ghost use Rattle.krb_readers.specs.KtmatchWords.{TicketMatch};
+
+    ghost Value = { TicketMatch };
+
+    ghost view = { λ o. record {
+      v1_order = o.v1_order;
+      quiet = o.quiet;
+      json = o.json;
+      with_filename = o.with_filename;
+      names = map vec_items o.names.items;
+    } };
+}
+
 /// Returns the options of ktmatch. Refuses a bad name.
 pub fn match_options<'a, M: Matches<'a>>(
     alloc: Global,
     matches: &M,
 ) -> Result<MatchOptions<Global>, WordFault<'a>>
-    ensures { Reads (match_mistake (M.matched matches.now)) (SpellsMatch (M.matched matches.now)) result }
+    ensures { ReadsAs (ticket_match_of (M.matched matches.now)) result }
 {
     let names = spelled_names(alloc, matches, "principal")?;
     Ok(MatchOptions {

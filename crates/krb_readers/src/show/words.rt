@@ -1,8 +1,8 @@
 //! The words of show, and its options.
 
 ghost use Rattle.std.specs.Prelude.{◌≡◌};
-ghost use Rattle.krb_driver.specs.Mistakes.{Spells};
-ghost use Rattle.krb_readers.specs.Show.{default_kind, show_mistake, show_options};
+ghost use Rattle.krb_driver.specs.Spelled.{Spells};
+ghost use Rattle.krb_readers.specs.Show.{default_kind, show_of};
 
 use krb_driver::{
     CommandName, CommandWords, FileKind, Matches, Mistake, Phrase, V1_BIG, Word, times_given,
@@ -59,7 +59,7 @@ fn default_kind<'a, M: Matches<'a>>(matches: &M) -> FileKind
 
 /// Returns the options of show. Refuses `-k` with a file.
 pub fn show_options<'a, M: Matches<'a>>(matches: &M) -> Result<ShowOptions, Mistake<'a>>
-    ensures { Spells (show_mistake (M.matched matches.now)) (λ options. options ≡ show_options (M.matched matches.now)) result }
+    ensures { Spells (show_of (M.matched matches.now)) result }
 {
     if matches.flag("keytab") && times_given(matches, "FILE") > 0 {
         return Err(Phrase::DOES_NOT_GO_WITH.of_both(typed(matches, "-k", "--keytab"), "FILE"));

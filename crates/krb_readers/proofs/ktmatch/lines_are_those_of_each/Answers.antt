@@ -1,6 +1,5 @@
-use Rattle.krb_readers.proofs.Cited.{◌≡◌, ap, refl, map, Bool, true, false}
+use Rattle.krb_readers.proofs.Cited.{◌≡◌, ap, refl, Bool, true, false}
 use Rattle.std.specs.Prelude.{◌||◌}
-use Rattle.std.specs.Vec.{vec_items}
 use Rattle.krb_walk.specs.Store.{fault_of}
 use Rattle.krb_ccache.specs.Store.{store_of}
 use Rattle.krb_match.specs.Tickets.{matched_tickets}
@@ -14,5 +13,5 @@ or_true false = refl
 
 pub returns : goal.returns
 returns c = λ o keytab m s file k lines.
-    let ts = matched_tickets (map vec_items o.names.items) m.0 k in
+    let ts = matched_tickets o.names m.0 k in
     rw lines (ap (λ (b : Bool). lines_of o.quiet (label_of b file) ts (fault_of (store_of k))) (or_true o.with_filename))

@@ -1,8 +1,11 @@
-use Rattle.krb_driver.proofs.Cited.{◌≡◌, drop, map, take, IfOk, ArePrintedNames, bad_name, first_mistake}
+use Rattle.krb_driver.proofs.Cited.{◌≡◌, drop, map, take, IfOk, Ok}
+use Rattle.std.specs.Result.{result_err}
+use Rattle.std.specs.Vec.{vec_items}
+use Rattle.krb_driver.specs.Spelled.{each, printed_name}
 use Rattle.krb_driver.proofs.command_line.spelled.spelled_names.Given as goal
 
--- no word so far has a mistake, and the names so far are those that these words spell
+-- the words that are left have the mistakes of all, and the values so far are those that the words before spell
 abbrev pub invariant-words : goal.invariant-words
 invariant-words g l =
-    (first_mistake bad_name (map (λ word. word.now) (drop l.word-index l.words)) ≡ first_mistake bad_name (map (λ word. word.now) l.words))
-    × IfOk l.names (λ names. ArePrintedNames (map (λ word. word.now) (take l.word-index l.words)) names)
+    (result_err (each printed_name (map (λ word. word.now) (drop l.word-index l.words))) ≡ result_err (each printed_name (map (λ word. word.now) l.words)))
+    × IfOk l.names (λ e. each printed_name (map (λ word. word.now) (take l.word-index l.words)) ≡ Ok (map vec_items e.items))
