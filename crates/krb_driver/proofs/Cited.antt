@@ -5,7 +5,8 @@ pub use Rattle.std.proofs.lemmas.Bool.{true≢false, false≢true, le-leb, eqb-t
 pub use Rattle.std.proofs.lemmas.List.{take_all, length-map, drop_more, map-id, drop_all}
 pub use Rattle.std.specs.List.{flat_map, range_with_len, list_all}
 pub use Rattle.std.specs.Prelude.{option_map, codes, IsOk, IfOk, if◌then◌else◌, slice_get, ◌==◌, ◌&&◌, MatchOption, IsFalse, IsTrue}
-pub use Rattle.krb_driver.specs.Commands.{ready_end, made_effect, ShowsEnd, MakesFairly, Takes, FairOver, Settles, EndsCommand, Keeps, Opens, fair_first, ShowsPage, GivesOf, of_file, Finishes, Makes, HoldsIf, GivesLoaded, CommandPlan, Effect, IsSpent, faults, Fails, Page, opens, Saves, saved_end, settled, Displays, IsMade, text, files_after, goes_on, tries, EndsAfter, Tries, effect_by, if_unread, ending_of}
+pub use Rattle.krb_driver.specs.Commands.{ShowsEnd, MakesFairly, Takes, FairOver, Settles, EndsCommand, Keeps, fair_first, ShowsPage, GivesOf, of_file, Finishes, Makes, GivesLoaded, CommandPlan, Effect, IsSpent, Fails, Page, opens, Saves, saved_end, settled, Displays, IsMade, text, files_after, goes_on, tries, effect_by, if_unread, ending_of}
+pub use Rattle.krb_driver.specs.Composing.{ready_end, made_effect, Opens, HoldsIf, faults, EndsAfter, Tries}
 pub use Rattle.krb_driver.specs.Runs.{ErrorWatch, Writes, Run, ends_by, Shows, ReportsEnd, Adds, Underway, Sends, words_if, aftermath_text}
 pub use Rattle.krb_driver.specs.Hints.{quoted_byte, etype_option, operand_text, is_alike}
 pub use Rattle.krb_driver.specs.Loading.{keytab_in, keytab_refusal, or_refused, unless_refused, fresh_in}

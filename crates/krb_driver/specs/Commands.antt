@@ -3,7 +3,7 @@ use Rattle.std.specs.Prelude.{◌≡◌, ◌⊎◌, ℕ, Bool, true, false, not,
 use Rattle.krb_files.specs.declared.files.SaveFault.{SaveFault}
 use Rattle.krb_files.specs.Files.{SameFiles, CountsFailure}
 pub use Rattle.krb_files.specs.Loading.{Answer, LoadsFile, SavesFile, TurnsHold}
-pub use Rattle.krb_files.specs.Plan.{Plan, Ends, Holds, Loads, Faults, Loaded, follow}
+pub use Rattle.krb_files.specs.Plan.{Plan, Ends, Holds, Loads, Loaded, follow}
 pub use Rattle.krb_driver.specs.declared.error.RunError.{RunError}
 use Rattle.krb_driver.specs.declared.error.RunError.TheVariants as error
 pub use Rattle.krb_driver.specs.declared.file_name.FileName.{FileName}
@@ -12,21 +12,11 @@ pub use Rattle.krb_files.specs.declared.files.Files.{Ghosts}
 use Rattle.krb_files.specs.declared.aftermath.Aftermath.{Aftermath}
 use Rattle.krb_files.specs.declared.files.LoadFault.TheVariants as load
 use Rattle.krb_files.specs.Bytes.{Watch}
-use Rattle.krb_driver.specs.declared.command.FileError.{FileError}
-use Rattle.krb_driver.specs.declared.command.Made.{Made}
-use Rattle.krb_driver.specs.declared.command.Made.TheVariants as made
-use Rattle.krb_driver.specs.declared.command.Output.{Output}
 pub use Rattle.krb_driver.specs.declared.command.RunEnd.{RunEnd}
-use Rattle.krb_driver.specs.declared.command.Ready.{Ready}
-use Rattle.krb_driver.specs.declared.command.Ready.TheVariants as ready
 use Rattle.krb_driver.specs.declared.reporting.details.Details.{Details}
 pub use Rattle.krb_driver.specs.declared.command.World.{World}
 use Rattle.krb_driver.specs.Runs.{ErrorWatch, Run, EndsRun, Shows, BreaksOff, Reports, ends_by}
 pub use Rattle.krb_driver.specs.Effects.{Page, text, Effect, Fails, Displays, Saves, ending_of, about, is_save, saves_unless, saved_end, settled, files_after, IsSpent, IsMade, IsFailure}
-
--- the effects if a file was not read, or if memory ran out there
-abbrev pub faults : Faults Effect
-faults = record { unread = λ file. Fails file error.FileNotRead; spent = λ file. Fails file error.NoMemory }
 
 -- all that a command does
 abbrev pub CommandPlan : Type 0
@@ -70,11 +60,6 @@ effect_by (Loads name then_) (Err load.Failed ∷ answers) = if_unread name (the
 effect_by (Loads name then_) (Err load.NoMemory ∷ answers) = Fails name error.NoMemory
 effect_by (Loads name then_) (answer ∷ answers) = effect_by (then_ answer) answers
 
--- a command that goes on so after an error of that file ends if memory ran out or the file was not read
-pub record EndsAfter (file : FileName) (fails : RunError → CommandPlan) : Type 0 where
-  pub spent : fails error.NoMemory ≡ Ends (Fails file.name.now error.NoMemory)
-  pub unread : fails error.FileNotRead ≡ Ends (if_unread file.name.now (fails error.FileNotRead))
-
 -- what a file gave, or the error with that file's name
 abbrev pub of_file : {X : Type 0} → FileName → Result X RunError → Result X (List ℕ × RunError)
 of_file file (Ok x) = Ok x
@@ -116,21 +101,6 @@ module _ {F : Type 0} (trait : Ghosts F) (old : F) where
   pub record MakesFairly (plan : CommandPlan) (Fairly : List Answer → Type 0) (effect : Effect) (new : F) : Type 0 where
     pub makes : Makes plan effect new
     pub fair : IsSpent effect ⊎ Fairly makes.answers
-
-module _ {F : Type 0} (trait : Ghosts F) (old : F) where
-  -- a file was tried: whatever the rest of the plan makes after it, `tries` makes as a whole
-  abbrev pub Tries : {X : Type 0} → FileName → (Answer → Result X RunError) → Result X RunError → F → Type 0
-  Tries {X = X} file gives (Ok x) new = (then_ : X → CommandPlan) (fails : RunError → CommandPlan) (effect : Effect) (end : F) → EndsAfter file fails → Makes trait new (then_ x) effect end → Makes trait old (tries file gives then_ fails) effect end
-  Tries {X = X} file gives (Err why) new = (then_ : X → CommandPlan) (fails : RunError → CommandPlan) (effect : Effect) (end : F) → EndsAfter file fails → Makes trait new (fails why) effect end → Makes trait old (tries file gives then_ fails) effect end
-
-  -- a file was opened: what `then_` makes of it is what the plan that opens it makes; an error ends the plan
-  abbrev pub Opens : {X : Type 0} → FileName → (Answer → Result X RunError) → Result X (List ℕ × RunError) → F → Type 0
-  Opens {X = X} file gives (Ok x) new = (then_ : X → CommandPlan) (effect : Effect) (end : F) → Makes trait new (then_ x) effect end → Makes trait old (opens file gives then_) effect end
-  Opens {X = X} file gives (Err met) new = (then_ : X → CommandPlan) → Makes trait old (opens file gives then_) (Fails met.0 met.1) new
-
-  -- a file was held, if `held`: what a plan makes afterwards is what the plan that holds the file first makes
-  abbrev pub HoldsIf : Bool → List ℕ → F → Type 0
-  HoldsIf held file new = (plan : CommandPlan) (effect : Effect) (end : F) → Makes trait new plan effect end → Makes trait old (Holds held file plan) effect end
 
   -- what was to be saved was saved, or the save failed, and this is left to show
   abbrev pub Settles : Effect → F → Effect → Type 0
@@ -220,30 +190,3 @@ always plan mode = plan
 -- nothing more is known of the results of the loads
 abbrev pub any : List Answer → Type 0
 any answers = Unit {0}
-
--- ---- what is made, in code
-
--- what was opened, or the error with the file's name
-abbrev pub opened : {K X : Type 0} → (K → X) → Result K FileError → Result X (List ℕ × RunError)
-opened seen (Ok k) = Ok (seen k)
-opened seen (Err met) = Err (met.file.now, met.error)
-
--- the page of a finished text
-abbrev pub output_page : {A : Type 0} → Output A → Page
-output_page shown = text shown.text.items shown.verdict
-
--- the effect that `Command::make` returns
-abbrev pub made_effect : {A S : Type 0} → (S → List ℕ → Page) → List ℕ → Result (Made A S) FileError → Effect
-made_effect page file (Ok (made.Shows shown)) = Displays file (page shown file)
-made_effect page file (Ok (made.Saves image shown)) = Saves file image.items shown.text.items shown.verdict
-made_effect page file (Err met) = Fails met.file.now met.error
-
--- the effect that `Command::make` returns, of a command that prints a text
-abbrev pub text_effect : {A : Type 0} → List ℕ → Result (Made A (Output A)) FileError → Effect
-text_effect file made = made_effect (λ shown _. output_page shown) file made
-
--- what is left to show after a save
-abbrev pub ready_end : {A S : Type 0} → (S → List ℕ → Page) → List ℕ → Result (Ready A S) FileError → Effect
-ready_end page file (Ok (ready.Shows shown)) = Displays file (page shown file)
-ready_end page file (Ok (ready.Prints shown)) = Displays file (output_page shown)
-ready_end page file (Err met) = Fails met.file.now met.error

@@ -14,4 +14,5 @@ pub mod Spelled
 pub mod Either
 pub mod Effects
 pub mod Commands
+pub mod Composing
 pub mod Several

@@ -1,7 +1,8 @@
 //! What a command is, the world that it runs in, and the driver that runs one.
 
 ghost use Rattle.std.specs.Prelude.{◌≡◌, ℕ, List};
-ghost use Rattle.krb_driver.specs.Commands.{EndsCommand, Finishes, Runs, Settles, ShowsEnd, made_effect, ready_end, reported_aftermath, Effect, Page, about, is_save};
+ghost use Rattle.krb_driver.specs.Commands.{EndsCommand, Finishes, Runs, Settles, ShowsEnd, reported_aftermath, Effect, Page, about, is_save};
+ghost use Rattle.krb_driver.specs.Composing.{made_effect, ready_end};
 
 use crate::error::{RunError, is_spent};
 use crate::file_name::FileName;
@@ -113,7 +114,7 @@ pub trait Show<A: Allocator + Copy>: Drop {
 }
 
 impl<A: Allocator + Copy> Show<A> for Output<A> {
-    ghost use Rattle.krb_driver.specs.Commands.{output_page};
+    ghost use Rattle.krb_driver.specs.Composing.{output_page};
 
     ghost page = { λ shown file. output_page shown };
 
@@ -130,7 +131,8 @@ impl<A: Allocator + Copy> Show<A> for Output<A> {
 /// A command: a plan over files, what it shows, and the file that it saves.
 pub trait Command<A: Allocator + Copy> {
     ghost use Rattle.std.specs.Prelude.{◌≡◌, ℕ, List, Option};
-    ghost use Rattle.krb_driver.specs.Commands.{MakesFairly, any, made_effect, CommandPlan};
+    ghost use Rattle.krb_driver.specs.Commands.{MakesFairly, any, CommandPlan};
+    ghost use Rattle.krb_driver.specs.Composing.{made_effect};
     ghost use Rattle.krb_files.specs.Loading.{Answer};
 
     /// What it shows.

@@ -1,7 +1,8 @@
 //! Opens a file as a keytab or a cache, as its first bytes say.
 
 ghost use Rattle.std.specs.Prelude.{◌≡◌};
-ghost use Rattle.krb_driver.specs.Commands.{GivesOf, Opens, opened};
+ghost use Rattle.krb_driver.specs.Commands.{GivesOf};
+ghost use Rattle.krb_driver.specs.Composing.{Opens, opened};
 ghost use Rattle.krb_driver.specs.Either.{contents_in, contents_of, state_of};
 ghost use Rattle.krb_driver.specs.Loading.{Gives, result_map};
 

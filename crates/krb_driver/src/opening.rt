@@ -3,7 +3,8 @@
 
 ghost use Rattle.std.specs.Prelude.{◌≡◌, false, is_some, None, Some};
 ghost use Rattle.krb_driver.specs.declared.error.RunError.TheVariants.{OtherType, Refused};
-ghost use Rattle.krb_driver.specs.Commands.{GivesOf, Opens, Tries, opened, HoldsIf, can_hold};
+ghost use Rattle.krb_driver.specs.Commands.{GivesOf, can_hold};
+ghost use Rattle.krb_driver.specs.Composing.{Opens, Tries, opened, HoldsIf};
 ghost use Rattle.krb_driver.specs.Loading.{cache_in, cache_of, cache_refusal, fresh_in, keytab_for, keytab_in, keytab_or_empty, keytab_refusal, listed_in, matched_in, result_map, unless_refused, whole_in, whole_or_empty, writable_in};
 ghost use Rattle.krb_files.specs.Loading.{TurnsHold};
 ghost use Rattle.krb_files.specs.Plan.{HeldIf};

@@ -16,7 +16,8 @@ use std::io::{Read, Write};
 /// A command over each of several files.
 pub trait OverFiles<A: Allocator + Copy> {
     ghost use Rattle.std.specs.Prelude.{◌≡◌, ℕ, Option};
-    ghost use Rattle.krb_driver.specs.Commands.{CommandPlan, MakesFairly, any, made_effect};
+    ghost use Rattle.krb_driver.specs.Commands.{CommandPlan, MakesFairly, any};
+    ghost use Rattle.krb_driver.specs.Composing.{made_effect};
     ghost use Rattle.krb_driver.specs.declared.command.RunEnd.{RunEnd};
     ghost use Rattle.krb_driver.specs.declared.file_name.FileName.{FileName};
 

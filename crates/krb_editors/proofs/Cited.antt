@@ -9,7 +9,8 @@ pub use Rattle.krb_editors.specs.Ccedit.{cache_session, lines_events, is_refusal
 pub use Rattle.krb_ccache.specs.Rewrite.{cache_rules}
 pub use Rattle.krb_ccache.specs.Store.{CacheState, image_of, PlacedCredential, placed_credentials}
 pub use Rattle.krb_driver.proofs.Making.{makes-fairly, fairly-failed, fairly-holds, makes-end}
-pub use Rattle.krb_driver.specs.Commands.{fair_first, Makes, text_effect, Fails, Effect, IsSpent, opens, can_hold, Displays, text, CommandPlan, faults, saves_unless}
+pub use Rattle.krb_driver.specs.Commands.{fair_first, Makes, Fails, Effect, IsSpent, opens, can_hold, Displays, text, CommandPlan, saves_unless}
+pub use Rattle.krb_driver.specs.Composing.{text_effect, faults}
 pub use Rattle.krb_driver.specs.declared.error.RunError.{RunError}
 pub use Rattle.krb_files.specs.Plan.{Ends}
 pub use Rattle.krb_keytab.specs.Store.{KeytabState}

@@ -11,7 +11,7 @@ ghost use Rattle.krb_ccache.specs.Rewrite.{cache_rules};
 ghost use Rattle.krb_ccache.specs.SetConfig.{entry_of, match_places, setting_events};
 ghost use Rattle.krb_cache_text.specs.Script.{cache_line_in};
 ghost use Rattle.krb_editors.specs.Ccedit.{RunsFairly, cache_events, cache_session, ccedit_fairly, ccedit_plan, edits, is_refusal, line_events, line_may_change};
-ghost use Rattle.krb_driver.specs.Commands.{text_effect};
+ghost use Rattle.krb_driver.specs.Composing.{text_effect};
 ghost use Rattle.krb_editors.specs.Sessions.{RunsScript, left, new_session};
 
 use crate::edited::{may_change, read_script, replied};

@@ -4,7 +4,7 @@ ghost use Rattle.std.specs.Prelude.{◌≡◌, ℕ, List, IfOk, Ok, map};
 ghost use Rattle.std.specs.List.{list_any};
 ghost use Rattle.krb_walk.specs.ReplyContent.{content_of};
 ghost use Rattle.krb_keytab_text.specs.Reply.{reply_texts_by};
-ghost use Rattle.krb_driver.specs.Commands.{text_effect};
+ghost use Rattle.krb_driver.specs.Composing.{text_effect};
 ghost use Rattle.krb_editors.specs.Sessions.{is_change, may_change, replied, GivesLines};
 ghost use Rattle.krb_driver.specs.Loading.{result_map};
 

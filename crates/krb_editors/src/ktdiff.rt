@@ -1,7 +1,8 @@
 //! ktdiff: shows which keys two keytabs do not share.
 
 ghost use Rattle.std.specs.Prelude.{◌≡◌};
-ghost use Rattle.krb_driver.specs.Commands.{IsMade, Makes, Runs, always, any, text_effect};
+ghost use Rattle.krb_driver.specs.Commands.{IsMade, Makes, Runs, always, any};
+ghost use Rattle.krb_driver.specs.Composing.{text_effect};
 ghost use Rattle.krb_driver.specs.Spelled.{ReadsAs};
 ghost use Rattle.krb_editors.specs.Ktdiff.{comparison_of, differs, diffs_from, finds_none, ktdiff_plan, verdict_of};
 

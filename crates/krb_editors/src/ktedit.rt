@@ -3,7 +3,7 @@
 ghost use Rattle.std.specs.Prelude.{◌≡◌, ℕ, List, IfOk, Ok};
 ghost use Rattle.krb_keytab_text.specs.Script.{event_in};
 ghost use Rattle.krb_audit.specs.Findings.{hides_added};
-ghost use Rattle.krb_driver.specs.Commands.{text_effect};
+ghost use Rattle.krb_driver.specs.Composing.{text_effect};
 ghost use Rattle.krb_editors.specs.Ktedit.{RunsFairly, edits, ktedit_fairly, ktedit_plan};
 ghost use Rattle.krb_editors.specs.Sessions.{RunsScript};
 

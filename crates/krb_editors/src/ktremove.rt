@@ -3,7 +3,8 @@
 ghost use Rattle.std.specs.Prelude.{◌≡◌, IfOk};
 ghost use Rattle.krb_audit.specs.Selection.{Selects, selected_in};
 ghost use Rattle.krb_driver.specs.Several.{label_of};
-ghost use Rattle.krb_driver.specs.Commands.{text_effect, IsMade};
+ghost use Rattle.krb_driver.specs.Commands.{IsMade};
+ghost use Rattle.krb_driver.specs.Composing.{text_effect};
 ghost use Rattle.krb_driver.specs.declared.verdict.FileKind.TheVariants.{Keytab as OfKeytab};
 ghost use Rattle.krb_editors.specs.Removing.{RemovesWith};
 ghost use Rattle.krb_editors.specs.Ktremove.{ktremove_plan, needed_time, none_verdict, odd_selection, removal_of, removed_kvno, removes};

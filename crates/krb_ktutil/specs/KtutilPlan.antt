@@ -20,7 +20,8 @@ use Rattle.krb_driver.specs.declared.loading.NoKeytab.{NoKeytab}
 use Rattle.krb_driver.specs.declared.verdict.FileKind.TheVariants.{Keytab}
 use Rattle.krb_driver.specs.declared.verdict.Verdict.{Verdict}
 use Rattle.krb_driver.specs.declared.verdict.Verdict.TheVariants.{Well, NoEntry}
-use Rattle.krb_driver.specs.Commands.{Effect, Fails, Displays, Saves, text, text_effect, IsSpent}
+use Rattle.krb_driver.specs.Commands.{Effect, Fails, Displays, Saves, text, IsSpent}
+use Rattle.krb_driver.specs.Composing.{text_effect}
 use Rattle.krb_driver.specs.FileNames.{bare_name, has_type, is_other_type}
 use Rattle.krb_driver.specs.Loading.{keytab_of, keytab_or_new, result_map}
 use Rattle.krb_driver.specs.RunErrors.{hiding, no_keytab_error}

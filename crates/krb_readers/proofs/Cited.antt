@@ -4,7 +4,8 @@ pub use Rattle.std.specs.Prelude.{Bool, true, false, IsFalse, Ok, Err, fold, Res
 pub use Rattle.std.specs.List.{flat_map}
 pub use Rattle.std.specs.Io.KnownBytes.{Appends}
 pub use Rattle.krb_audit.specs.CheckUp.{CheckParts}
-pub use Rattle.krb_driver.specs.Commands.{CommandPlan, EndsAfter, ShowsPage, Displays, Page}
+pub use Rattle.krb_driver.specs.Commands.{CommandPlan, ShowsPage, Displays, Page}
+pub use Rattle.krb_driver.specs.Composing.{EndsAfter}
 pub use Rattle.krb_driver.specs.RunErrors.{output_error, verdict_status, Ending}
 pub use Rattle.krb_files.proofs.Prefixes.{Appends-nil, AppendsPrefix-none, Appends-trans, AppendsPrefix-after, AppendsPrefix-all, AppendsPrefix-longer}
 pub use Rattle.krb_files.specs.Bytes.{Watch, AppendsPrefix, is_write_fault}

@@ -15,7 +15,8 @@ use Rattle.krb_driver.specs.declared.error.RunError.TheVariants.{ClockNotRead, N
 use Rattle.krb_driver.specs.declared.file_name.FileName.{FileName}
 use Rattle.krb_driver.specs.declared.verdict.Verdict.{Verdict}
 use Rattle.krb_driver.specs.declared.verdict.Verdict.TheVariants.{Found}
-use Rattle.krb_driver.specs.Commands.{CommandPlan, Displays, Effect, EndsBefore, Fails, Page, output_page, text, tries}
+use Rattle.krb_driver.specs.Commands.{CommandPlan, Displays, Effect, EndsBefore, Fails, Page, text, tries}
+use Rattle.krb_driver.specs.Composing.{output_page}
 use Rattle.krb_driver.specs.Loading.{keytab_in}
 use Rattle.krb_driver.specs.RunErrors.{Ending, error_status, said_of_file, verdict_status}
 use Rattle.krb_driver.specs.Several.{RunsOver, first_round, label_of}

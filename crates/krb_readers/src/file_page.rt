@@ -1,7 +1,8 @@
 //! What ktcheck and ktmatch show of a file.
 
 ghost use Rattle.std.specs.Prelude.{◌≡◌, IsFalse};
-ghost use Rattle.krb_driver.specs.Commands.{ShowsPage, made_effect};
+ghost use Rattle.krb_driver.specs.Commands.{ShowsPage};
+ghost use Rattle.krb_driver.specs.Composing.{made_effect};
 ghost use Rattle.krb_readers.specs.Ktcheck.{file_page, refused_effect, refused_page};
 
 use krb_driver::{FileError, FileName, Made, Output, RunError, Show, Verdict, append_said};

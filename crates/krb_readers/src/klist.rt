@@ -6,7 +6,8 @@ pub(crate) mod words;
 
 ghost use Rattle.std.specs.Prelude.{◌≡◌, IsFalse};
 ghost use Rattle.krb_text.specs.Gathered.{Prints};
-ghost use Rattle.krb_driver.specs.Commands.{always, made_effect, Displays, IsMade};
+ghost use Rattle.krb_driver.specs.Commands.{always, Displays, IsMade};
+ghost use Rattle.krb_driver.specs.Composing.{made_effect};
 ghost use Rattle.krb_readers.specs.Klist.{ListsAll, gap, klist_plan, listed_text, listed_verdict, listing_page, page_of, printed_after};
 
 use crate::klist::words::{KlistOptions, ListKind};

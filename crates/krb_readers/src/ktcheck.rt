@@ -4,7 +4,8 @@ pub(crate) mod page;
 pub(crate) mod words;
 
 ghost use Rattle.std.specs.Prelude.{◌≡◌};
-ghost use Rattle.krb_driver.specs.Commands.{Displays, IsMade, made_effect};
+ghost use Rattle.krb_driver.specs.Commands.{Displays, IsMade};
+ghost use Rattle.krb_driver.specs.Composing.{made_effect};
 ghost use Rattle.krb_readers.specs.Ktcheck.{ChecksAll, aged_by, check_page, explained_after, explained_by, file_page, found, page_of, plan_of};
 
 use crate::file_page::{FilePage, refused};

@@ -1,6 +1,7 @@
 //! ktfind: looks up an entry in a keytab.
 
-ghost use Rattle.krb_driver.specs.Commands.{Runs, always, any, text_effect, IsMade};
+ghost use Rattle.krb_driver.specs.Commands.{Runs, always, any, IsMade};
+ghost use Rattle.krb_driver.specs.Composing.{text_effect};
 ghost use Rattle.krb_readers.specs.Ktfind.{entry_sought_of, finds, ktfind_plan};
 ghost use Rattle.krb_driver.specs.Spelled.{ReadsAs};
 

@@ -3,7 +3,8 @@
 pub(crate) mod words;
 
 ghost use Rattle.std.specs.Prelude.{◌≡◌, ◌++◌, OnOk};
-ghost use Rattle.krb_driver.specs.Commands.{IsMade, always, text_effect};
+ghost use Rattle.krb_driver.specs.Commands.{IsMade, always};
+ghost use Rattle.krb_driver.specs.Composing.{text_effect};
 ghost use Rattle.krb_driver.specs.Either.{damage_of, state_of};
 ghost use Rattle.krb_driver.specs.RunErrors.{listing_verdict};
 ghost use Rattle.krb_readers.specs.Klist.{printed_after};

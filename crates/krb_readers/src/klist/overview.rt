@@ -1,7 +1,8 @@
 //! klist -l: a line for each cache.
 
 ghost use Rattle.std.specs.Prelude.{◌≡◌, ◌++◌, OnOk, false};
-ghost use Rattle.krb_driver.specs.Commands.{IsMade, always, text_effect};
+ghost use Rattle.krb_driver.specs.Commands.{IsMade, always};
+ghost use Rattle.krb_driver.specs.Composing.{text_effect};
 ghost use Rattle.krb_driver.specs.Mistakes.{Refuses};
 ghost use Rattle.krb_driver.specs.Spelled.{Spells};
 ghost use Rattle.krb_readers.specs.Overview.{SurveysAll, heading, odd_with_list, overview_of, overview_plan, overview_text, padded, summary_of, surveys};

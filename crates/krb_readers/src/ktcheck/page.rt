@@ -1,7 +1,7 @@
 //! What ktcheck shows of a file.
 
 ghost use Rattle.std.specs.Prelude.{◌≡◌, ◌++◌, IfOk, OnOk};
-ghost use Rattle.krb_driver.specs.Commands.{output_page};
+ghost use Rattle.krb_driver.specs.Composing.{output_page};
 ghost use Rattle.krb_readers.specs.Ktcheck.{check_page, found, found_verdict, is_silent, left_out, lines_of, lines_page};
 
 use crate::ktcheck::words::CheckOptions;

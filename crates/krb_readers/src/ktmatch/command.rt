@@ -1,7 +1,8 @@
 //! ktmatch over one cache: its lines, or its object.
 
 ghost use Rattle.std.specs.Prelude.{◌≡◌, IfOk};
-ghost use Rattle.krb_driver.specs.Commands.{Displays, IsMade, made_effect};
+ghost use Rattle.krb_driver.specs.Commands.{Displays, IsMade};
+ghost use Rattle.krb_driver.specs.Composing.{made_effect};
 ghost use Rattle.krb_readers.specs.Ktcheck.{file_page};
 ghost use Rattle.krb_readers.specs.Ktmatch.{match_page, page_due, page_of, plan_of, state_after};
 

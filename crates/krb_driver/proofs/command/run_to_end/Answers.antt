@@ -1,4 +1,4 @@
-use Rattle.krb_driver.specs.Commands.{made_effect}
+use Rattle.krb_driver.specs.Composing.{made_effect}
 use Rattle.krb_driver.proofs.Running.{ends-finished}
 use Rattle.krb_driver.proofs.command.run_to_end.Goals as goal
 

@@ -1,4 +1,5 @@
-use Rattle.krb_driver.specs.Commands.{any, made_effect}
+use Rattle.krb_driver.specs.Commands.{any}
+use Rattle.krb_driver.specs.Composing.{made_effect}
 use Rattle.krb_driver.proofs.Running.{ends-finished}
 use Rattle.krb_driver.proofs.several.run_file.Goals as goal
 
