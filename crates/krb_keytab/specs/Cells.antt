@@ -15,11 +15,11 @@ use Rattle.krb_keytab.specs.Entry.{entry_at}
 
 -- ---- the length before each cell
 
--- what a field says: 0 is the end, a number below 2 ^ 31 the size of a record, any other that of a hole in two's complement
+-- what a length field says, signed: 0 is the end mark, a number above 0 the size of a record, one below 0 that of a hole
 abbrev pub length_of : ℕ → Length
 length_of n = if n == 0 then says.End else (if nat_lt n (2 ^ 31) then says.Live n else says.Free (2 ^ 32 - n))
 
--- the field that says it
+-- the length field that says the end mark, a record's size or a hole's
 abbrev pub field_of : Length → ℕ
 field_of says.End = 0
 field_of (says.Live n) = n
@@ -39,24 +39,24 @@ HasField (says.Free n) = (0 < n) × (n ≤ 2 ^ 31)
 
 -- ---- cells
 
--- a cell: a record, whose bytes begin with an entry, or a hole
+-- a cell of a keytab: a record (`Live`), whose bytes begin with an entry, or a hole (`Free`)
 pub data Cell : Type 0 where
   Live : List ℕ → Cell
   Free : List ℕ → Cell
 
--- what is after the cells: nothing, a length 0 and more bytes, or bytes that are none of these
+-- what is after the last cell of a keytab: nothing, an end mark (a length 0) and bytes after it, or bytes that are damaged
 pub data End : Type 0 where
   Bare : End
   Mark : List ℕ → End
   Damaged : FaultKind → List ℕ → End
 
--- what an image holds after its two version bytes
+-- what a keytab holds after its two version bytes: its cells, and what is after them
 abbrev pub Contents : Type 0
 Contents = ContentsOf Cell End
 
 -- ---- spelling
 
--- the bytes after the length
+-- the bytes of a cell after its length
 abbrev pub bytes_of : Cell → List ℕ
 bytes_of (Live b) = b
 bytes_of (Free b) = b
@@ -65,42 +65,42 @@ bytes_of (Free b) = b
 abbrev pub size : Cell → ℕ
 size c = length (bytes_of c)
 
--- its length
+-- the length of a cell, as a record's or a hole's
 abbrev pub length_of_cell : Cell → Length
 length_of_cell (Live b) = says.Live (length b)
 length_of_cell (Free b) = says.Free (length b)
 
--- the field of its length
+-- the length field of a cell
 abbrev pub length_field : Cell → ℕ
 length_field c = field_of (length_of_cell c)
 
--- the spelling of a cell
+-- the bytes that spell a cell: its length field and its bytes
 abbrev pub cell : Order → Cell → List ℕ
 cell o c = digits o w32 (length_field c) ++ bytes_of c
 
--- the spelling of an end
+-- the bytes after the last cell
 abbrev pub end_bytes : Order → End → List ℕ
 end_bytes o Bare = []
 end_bytes o (Mark rest) = digits o w32 0 ++ rest
 end_bytes o (Damaged kind rest) = rest
 
--- the bytes after the two version bytes
+-- the bytes of a keytab after its two version bytes
 abbrev pub spelling : Order → Contents → List ℕ
 spelling o k = flat_map (cell o) k.cells ++ end_bytes o k.end
 
--- the kind of the fault where the cells end, if there is one
+-- the kind of the fault after the last cell, if the bytes there are damaged
 abbrev pub kind_of : End → Option FaultKind
 kind_of Bare = None
 kind_of (Mark rest) = None
 kind_of (Damaged kind rest) = Some kind
 
--- the spelling of a keytab
+-- the bytes of a keytab: 05, its version, its cells, and what is after them
 abbrev pub image : KtFormat → Contents → List ℕ
 image f k = 5 ∷ version_byte f ∷ spelling (order_of f) k
 
 -- ---- reading
 
--- what ends the cells if there is no whole length
+-- what ends the cells where fewer than four bytes are left for a length
 abbrev pub short_end : List ℕ → End
 short_end [] = Bare
 short_end (b ∷ bs) = Damaged CutLength (b ∷ bs)
@@ -111,7 +111,7 @@ cell_in says.End b = Live b
 cell_in (says.Live n) b = Live b
 cell_in (says.Free n) b = Free b
 
--- what is there by its length: the end mark, a record if an entry is read, a hole, or else a fault
+-- what bytes are by the length they begin with: an end mark; a record, if that many bytes follow and begin with an entry; a hole, if that many follow; or else damaged
 abbrev pub next_of_length : KtFormat → List ℕ → List ℕ → Length → NextCell Cell End
 next_of_length f bytes rest says.End = NoMore (Mark rest)
 next_of_length f bytes rest (says.Live n) =
@@ -121,20 +121,20 @@ next_of_length f bytes rest (says.Free n) =
     if nat_lt (length rest) n then NoMore (Damaged Overrun bytes)
     else More (Free (take n rest)) (drop n rest)
 
--- what is there by the number read, if one was
+-- what bytes begin with: a cell by the length that was read, or the end if there is none
 abbrev pub next_by : KtFormat → List ℕ → Option (ℕ × List ℕ) → NextCell Cell End
 next_by f bytes None = NoMore (short_end bytes)
 next_by f bytes (Some n) = next_of_length f bytes n.1 (length_of n.0)
 
--- the cell at the front, and the bytes after it
+-- the cell that bytes begin with, or what ends the cells there
 unfoldable pub next : KtFormat → List ℕ → NextCell Cell End
 next f bytes = next_by f bytes (number_at (order_of f) w32 bytes)
 
--- the format of cells
+-- the format of a keytab's cells: how they are read and spelled
 abbrev pub keytab_format : KtFormat → Format Cell End
 keytab_format f = record { next = next f; cell = cell (order_of f); end_bytes = end_bytes (order_of f); none = Bare }
 
--- the contents of bytes
+-- what bytes after the two version bytes hold: cells one after the other, and what is after the last
 unfoldable pub contents : KtFormat → List ℕ → Contents
 contents f bytes = contents_of (keytab_format f) bytes
 

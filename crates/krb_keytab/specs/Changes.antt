@@ -14,36 +14,36 @@ use Rattle.krb_walk.specs.declared.refusal.Code.TheVariants as code
 use Rattle.krb_walk.specs.declared.refusal.Refusal.{Refusal}
 use Rattle.krb_walk.specs.declared.refusal.Refusal.TheVariants.{Code as ByCode, NoMemory}
 
--- the place of a cell, and the cell
+-- a cell with its place, the number of bytes before its length field
 abbrev pub PlacedCell : Type 0
 PlacedCell = ℕ × Cell
 
--- the cells with their places, the first at that one
+-- cells with their places, if the first is at the place `at`
 abbrev pub placed_cells : ℕ → List Cell → List PlacedCell
 placed_cells at [] = []
 placed_cells at (c ∷ cs) = (at, c) ∷ placed_cells (at + (4 + size c)) cs
 
--- the cells, with a function applied to the one at a place
+-- cells, where the one at the place p is changed
 abbrev pub replaced_at : ℕ → (Cell → Cell) → ℕ → List Cell → List Cell
 replaced_at at change p cells = map (λ x. if x.0 == p then change x.1 else x.1) (placed_cells at cells)
 
 -- ---- removing
 
--- a hole of the cell's size, all zeros
+-- the hole that a removed record leaves: of the record's size, all zeros
 abbrev pub zero_hole : Cell → Cell
 zero_hole c = Free (replicate (size c) 0)
 
--- the keytab with the cell at a place turned into such a hole, and all else unchanged
+-- a keytab after the removal of the record at a place: the record is a hole of zeros, and all else is unchanged
 abbrev pub with_hole : KeytabState → ℕ → KeytabState
 with_hole k p = record k { contents = record { cells = replaced_at 2 zero_hole p k.contents.cells; end = k.contents.end } }
 
--- the result of a removal: refused if the keytab is damaged, and then if no record starts at the place
+-- the result of removing the record at a place: refused if the keytab is damaged, and then if no record begins there
 abbrev pub cut_result : KeytabState → ℕ → Result KeytabState Code
 cut_result k p =
     if is_some (fault_of (store_of k)) then Err code.Damaged
     else (if is_some (live_bytes (store_of k) p) then Ok (with_hole k p) else Err code.NotLive)
 
--- the keytab without the records at these places; a place that is refused changes nothing
+-- a keytab after the removal of the records at these places; a place whose removal is refused changes nothing
 abbrev pub without : KeytabState → List ℕ → KeytabState
 without k [] = k
 without k (p ∷ places) = without (cut_store k (cut_result k p)) places
@@ -64,12 +64,12 @@ AnswersRemove k given (Err refused) new = (given ≡ Err refused) × (new ≡ k)
 
 -- ---- adding
 
--- a hole of at least this many bytes
+-- a cell is a hole of at least n bytes
 abbrev pub is_hole : ℕ → Cell → Bool
 is_hole n (Live b) = false
 is_hole n (Free b) = nat_le n (length b)
 
--- the first such hole, with its place
+-- the first hole of at least n bytes, with its place
 abbrev pub first_hole : ℕ → ℕ → List Cell → Option PlacedCell
 first_hole at n cells = find (λ x. is_hole n x.1) (placed_cells at cells)
 
@@ -81,55 +81,55 @@ hole_of x = record { place = x.0; size = size x.1 }
 abbrev pub hole_from : ℕ → ℕ → List Cell → Option Hole
 hole_from at n cells = option_map hole_of (first_hole at n cells)
 
--- bytes, and zeros after them up to a size
+-- bytes, and zeros after them up to n bytes
 abbrev pub with_zeros : List ℕ → ℕ → List ℕ
 with_zeros bytes n = bytes ++ replicate (n - length bytes) 0
 
--- a record of the cell's size that begins with these bytes, and is zeros after them
+-- the record that takes a hole: the bytes of an entry, and zeros after them up to the hole's size
 abbrev pub record_in : List ℕ → Cell → Cell
 record_in bytes c = Live (with_zeros bytes (size c))
 
--- the keytab with the cell at a place turned into such a record, and all else unchanged
+-- a keytab where the hole at a place is a record of an entry's bytes, and all else is unchanged
 abbrev pub with_record_in : KeytabState → List ℕ → ℕ → KeytabState
 with_record_in k bytes p = record k { contents = record { cells = replaced_at 2 (record_in bytes) p k.contents.cells; end = k.contents.end } }
 
--- what ends the cells once one is added: after an end mark nothing is left
+-- what is after the last cell once a record is appended: nothing is left after an end mark
 abbrev pub end_after : End → End
 end_after Bare = Bare
 end_after (Mark rest) = Mark []
 end_after (Damaged kind rest) = Damaged kind rest
 
--- the keytab with a record of these bytes after its cells
+-- a keytab with a record of these bytes appended to its cells
 abbrev pub with_last : KeytabState → List ℕ → KeytabState
 with_last k bytes = record k { contents = record { cells = k.contents.cells ++ Live bytes ∷ []; end = end_after k.contents.end } }
 
--- the addition of bytes after the cells: refused if the image would be longer than the limit
+-- the result of appending a record: its place and the keytab, refused if the image would be longer than the limit
 abbrev pub append_result : KeytabState → List ℕ → Result (ℕ × KeytabState) Code
 append_result k bytes =
     if nat_lt k.limit (length (image_of (with_last k bytes))) then Err code.Full
     else Ok (end_of (store_of k), with_last k bytes)
 
--- the addition of bytes, into a hole if there is one, else after the cells
+-- the result of adding an entry's bytes: into the first hole that is large enough, if there is one, or else appended
 abbrev pub put_result_into : KeytabState → List ℕ → Option PlacedCell → Result (ℕ × KeytabState) Code
 put_result_into k bytes (Some hole) = Ok (hole.0, with_record_in k bytes hole.0)
 put_result_into k bytes None = append_result k bytes
 
--- the addition of bytes: the first hole that is large enough takes them
+-- the result of adding an entry's bytes: into the first hole that is large enough, or appended
 abbrev pub put_bytes_result : KeytabState → List ℕ → Result (ℕ × KeytabState) Code
 put_bytes_result k bytes = put_result_into k bytes (first_hole 2 (length bytes) k.contents.cells)
 
--- the result of an addition, the place of the record and the keytab with it: refused if the keytab is damaged, and then if a part of the entry is too long
+-- the result of adding an entry: the record's place and the keytab, refused if the keytab is damaged, and then if a part of the entry is too long
 abbrev pub put_result : KeytabState → EntryParts → Result (ℕ × KeytabState) Code
 put_result k e =
     if is_some (fault_of (store_of k)) then Err code.Damaged
     else (if fits k.format e then put_bytes_result k (written_form k.format e) else Err code.TooLong)
 
--- an addition is refused
+-- the addition of an entry is refused
 abbrev pub is_refused : Result (ℕ × KeytabState) Code → Bool
 is_refused (Ok given) = false
 is_refused (Err refused) = true
 
--- an addition takes no memory if it is refused, if a hole takes the entry, or if the image becomes no longer
+-- the addition of an entry takes no memory: it is refused, a hole takes the entry, or the image becomes no longer
 abbrev pub takes_none : KeytabState → EntryParts → Bool
 takes_none k e =
     is_refused (put_result k e)

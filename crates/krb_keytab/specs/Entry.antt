@@ -5,7 +5,7 @@ use Rattle.krb_wire.specs.declared.format.KtFormat.{KtFormat}
 use Rattle.krb_wire.specs.Spelling.{Parts, order_of, digits, data16, kt_principal, IsShort, FitsKt}
 use Rattle.krb_wire.specs.Reading.{◌>>=◌, byte_at, number_at, data16_at, kt_principal_at}
 
--- an entry, without where it is in memory
+-- an entry of a keytab: its principal, its time in seconds, its kvno (`version`), its enctype and its key
 pub record EntryParts : Type 0 where
   pub principal : Parts
   pub timestamp : ℕ
@@ -13,7 +13,7 @@ pub record EntryParts : Type 0 where
   pub enctype : ℕ
   pub key : List ℕ
 
--- the fields up to the key, with the 8-bit kvno
+-- the fields of an entry up to its key, with the kvno of 8 bits
 pub record Front : Type 0 where
   pub principal : Parts
   pub timestamp : ℕ
@@ -21,7 +21,7 @@ pub record Front : Type 0 where
   pub enctype : ℕ
   pub key : List ℕ
 
--- the spelling of a front
+-- the bytes that spell the fields of an entry up to its key
 abbrev pub front : KtFormat → Front → List ℕ
 front f x =
     kt_principal f x.principal
@@ -36,12 +36,12 @@ pub record FitsFront (f : KtFormat) (x : Front) : Type 0 where
   pub enctype : x.enctype < 2 ^ 16
   pub key : IsShort x.key
 
--- the key version: the number after the key if there are four bytes and it is not 0, else the 8-bit kvno
+-- the kvno of an entry: the number of 32 bits after the key, if four bytes are there and it is not 0, or else the 8-bit one
 abbrev pub version_by : ℕ → Option (ℕ × List ℕ) → ℕ
 version_by low None = low
 version_by low (Some n) = if n.0 == 0 then low else n.0
 
--- the entry of a front and the bytes after it
+-- the entry of fields up to the key and the bytes after the key
 abbrev pub entry_of : KtFormat → Front → List ℕ → EntryParts
 entry_of f x tail = record {
   principal = x.principal;
@@ -61,7 +61,7 @@ pub record Spells (f : KtFormat) (e : EntryParts) (bytes : List ℕ) : Type 0 wh
 
 -- ---- reading
 
--- the front that the bytes begin with, and the bytes after it
+-- the fields of an entry up to its key that bytes begin with, and the bytes after the key
 unfoldable pub front_at : KtFormat → List ℕ → Option (Front × List ℕ)
 front_at f bytes = do
   principal ← kt_principal_at f bytes
@@ -71,7 +71,7 @@ front_at f bytes = do
   key ← data16_at (order_of f) enctype.1
   Some (record { principal = principal.0; timestamp = timestamp.0; low_version = version.0; enctype = enctype.0; key = key.0 }, key.1)
 
--- the entry that the bytes spell, if they spell one
+-- the entry that the bytes of a record begin with; `None` if they begin with none
 unfoldable pub entry_at : KtFormat → List ℕ → Option EntryParts
 entry_at f bytes = do
   x ← front_at f bytes

@@ -9,11 +9,11 @@ use Rattle.krb_keytab.specs.Entry.{EntryParts, Front, front, entry_at}
 abbrev pub fits : KtFormat → EntryParts → Bool
 fits f e = name_fits f e.principal && is_short e.key
 
--- the fields up to the key, with the version modulo 256
+-- the fields of an entry up to its key, with the kvno modulo 256
 abbrev pub front_of : EntryParts → Front
 front_of e = record { principal = e.principal; timestamp = e.timestamp; low_version = e.version % 256; enctype = e.enctype; key = e.key }
 
--- the written form: these fields, and the whole version in 32 bits
+-- the bytes that are written for an entry: its fields up to the key, and the whole kvno in 32 bits
 abbrev pub written_form : KtFormat → EntryParts → List ℕ
 written_form f e = front f (front_of e) ++ digits (order_of f) w32 e.version
 

@@ -3,7 +3,7 @@ use Rattle.std.specs.Prelude.{ℕ, List, codes}
 use Rattle.krb_keytab.specs.declared.open.KtOpenFault.{KtOpenFault}
 use Rattle.krb_keytab.specs.declared.open.KtOpenFault.TheVariants.{TooShort, BadVersion, TooLarge}
 
--- the number of a fault, as printed in messages: our choice
+-- the number that messages have for an image that is no keytab
 abbrev pub open_fault_number : KtOpenFault → ℕ
 open_fault_number TooShort = 1
 open_fault_number BadVersion = 2

@@ -11,15 +11,15 @@ use Rattle.krb_keytab.specs.Form.{written_form}
 use Rattle.krb_walk.specs.Rules.{Rules}
 use Rattle.krb_keytab.specs.Changes.{cut_result, put_result, takes_none}
 
--- a record that is an entry's written form in version 2, and no more
+-- the record that a rewrite has for an entry: the entry's written form in version 2, and no more
 abbrev pub new_record : EntryParts → Cell
 new_record e = Live (written_form V2 e)
 
--- the keytab in version 2, with such a record for each entry, in order: no holes, and nothing after the cells
+-- a keytab rewritten: in version 2, with a record for each entry, in order, no holes, and nothing after the cells
 abbrev pub rewrite_of : KeytabState → KeytabState
 rewrite_of k = record { format = V2; limit = k.limit; contents = record { cells = map new_record (entries k); end = Bare } }
 
--- the result of a rewrite: refused if the keytab is damaged, and then if the new image would be longer than the limit
+-- the result of rewriting a keytab: refused if the keytab is damaged, and then if the new image would be longer than the limit
 abbrev pub rewrite_result : KeytabState → Result KeytabState Code
 rewrite_result k =
     if is_some (fault_of (store_of k)) then Err Damaged

@@ -12,7 +12,7 @@ use Rattle.krb_keytab.specs.declared.open.KtOpenFault.TheVariants.{TooShort, Bad
 use Rattle.krb_keytab.specs.Entry.{EntryParts, entry_at}
 use Rattle.krb_keytab.specs.Cells.{Cell, Live, Free, Bare, Contents, contents, size, image, kind_of}
 
--- a keytab: its format, the greatest length of its image, and its cells with what ends them
+-- a keytab: its format, the greatest length that its image may have, and its cells with what is after them
 pub record KeytabState : Type 0 where
   pub format : KtFormat
   pub limit : ℕ
@@ -23,32 +23,32 @@ pub record InMemory : Type 0 where
   pub state : KeytabState
   pub room : ℕ
 
--- the bytes that spell it
+-- the bytes of a keytab
 abbrev pub image_of : KeytabState → List ℕ
 image_of k = image k.format k.contents
 
--- the format by the first two bytes, with this byte order for version 1
+-- the format that the first two bytes of an image give, 05 and 01 or 02; version 1 is read in the byte order o
 abbrev pub format_of : Order → List ℕ → Option KtFormat
 format_of o bytes =
     if slice_index bytes 0 == 5
     then (if slice_index bytes 1 == 1 then Some (V1 o) else (if slice_index bytes 1 == 2 then Some V2 else None))
     else None
 
--- the keytab of a format, if its image is not too long
+-- the keytab in an image of a format, or that the version is unknown or the image longer than the limit
 abbrev pub open_result_in : ℕ → List ℕ → Option KtFormat → Result KeytabState KtOpenFault
 open_result_in limit bytes None = Err BadVersion
 open_result_in limit bytes (Some f) = if nat_lt limit (length bytes) then Err TooLarge else Ok (record { format = f; limit = limit; contents = contents f (drop 2 bytes) })
 
--- the result of opening an image: fewer than two bytes are too short, then the version is checked, then the length
+-- the keytab in an image, or why there is none: fewer than two bytes, an unknown version, or an image longer than the limit
 abbrev pub open_result : Order → ℕ → List ℕ → Result KeytabState KtOpenFault
 open_result o limit bytes = if nat_lt (length bytes) 2 then Err TooShort else open_result_in limit bytes (format_of o bytes)
 
--- the bytes of a record; a hole has none
+-- the bytes of a cell that is a record; a hole gives none
 abbrev pub live_of : Cell → Option (List ℕ)
 live_of (Live b) = Some b
 live_of (Free b) = None
 
--- a cell as a store sees it: its length takes four places
+-- a cell as part of a store: its width includes the four bytes of its length
 abbrev pub store_cell : Cell → StoreCell
 store_cell c = record { width = 4 + size c; live = live_of c }
 
@@ -64,11 +64,11 @@ end_place at cells = end_from at (map store_cell cells)
 abbrev pub store_of_image : KtFormat → List ℕ → Store
 store_of_image f image = record { first = 2; cells = store_cells f (drop 2 image); fault = kind_of (contents f (drop 2 image)).end }
 
--- the store of a keytab
+-- a keytab as a store: its cells from place 2 on, and its fault
 abbrev pub store_of : KeytabState → Store
 store_of k = record { first = 2; cells = map store_cell k.contents.cells; fault = kind_of k.contents.end }
 
--- the entries, in order
+-- the entries of a keytab, in file order
 abbrev pub entries : KeytabState → List EntryParts
 entries k = filter_map (λ r. entry_at k.format r.bytes) (records (store_of k))
 
@@ -93,6 +93,6 @@ IsInOrder o V2 = Unit {0}
 abbrev pub Reopens : KeytabState → List ℕ → Type 0
 Reopens k bytes = (o : Order) (limit : ℕ) → IsInOrder o k.format → k.limit ≤ limit → open_result o limit bytes ≡ Ok (record k { limit = limit })
 
--- a keytab without cells, and with nothing after them
+-- a keytab of a format without cells, and with nothing after them
 abbrev pub empty : KtFormat → ℕ → KeytabState
 empty f limit = record { format = f; limit = limit; contents = record { cells = []; end = Bare } }

@@ -19,18 +19,18 @@ unquoted_atom b = if b == 47 then Slash else (if b == 64 then At else Byte b)
 abbrev pub is_special : ℕ → Bool
 is_special b = b == 47 || b == 64 || b == 92
 
--- the atoms of a text, after an open backslash or not
+-- the atoms of a text, if a backslash is open before it or not
 abbrev pub atoms_after : Bool → List ℕ → List Atom
 atoms_after false [] = []
 atoms_after true [] = Lone ∷ []
 atoms_after true (b ∷ bs) = Byte (meaning b) ∷ atoms_after false bs
 atoms_after false (b ∷ bs) = if b == 92 then atoms_after true bs else unquoted_atom b ∷ atoms_after false bs
 
--- the atoms of a text
+-- a text as atoms: a byte, quoted or not, a `/` that separates components, or an `@`; a backslash at the end is an atom too
 abbrev pub atoms : List ℕ → List Atom
 atoms text = atoms_after false text
 
--- the byte of an atom
+-- the byte that an atom stands for in a component or a realm
 abbrev pub byte_of : Atom → ℕ
 byte_of (Byte b) = b
 byte_of Slash = 47

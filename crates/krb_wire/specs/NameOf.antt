@@ -26,44 +26,44 @@ name_fault_phrase SecondAt = codes "a second @"
 name_fault_phrase SlashInRealm = codes "a / in the realm"
 name_fault_phrase NoMemory = codes "out of memory"
 
--- the fault of an atom before any `@`
+-- the fault of an atom before the `@`: a backslash at the end of the text
 abbrev pub component_fault : Atom → Option NameFault
 component_fault (Byte b) = None
 component_fault Slash = None
 component_fault At = None
 component_fault Lone = Some LoneBackslash
 
--- the fault of an atom of the realm
+-- the fault of an atom of the realm: a `/`, an `@`, or a backslash at the end of the text
 abbrev pub realm_fault : Atom → Option NameFault
 realm_fault (Byte b) = None
 realm_fault Slash = Some SlashInRealm
 realm_fault At = Some SecondAt
 realm_fault Lone = Some LoneBackslash
 
--- all faults, from left to right: before the first `@`, then after it
+-- the faults of a text's atoms, from left to right: before the first `@`, then after it
 abbrev pub faults_of : List Atom → List NameFault
 faults_of text = filter_map component_fault (before_at text) ++ filter_map realm_fault (unwrap_or (after_at text) [])
 
--- the first fault, if there is one
+-- the leftmost fault of a text, if the text has one
 abbrev pub first_fault : List NameFault → Option NameFault
 first_fault [] = None
 first_fault (fault ∷ others) = Some fault
 
--- the components: the text before any `@`, split at each `/`
+-- the components of a name: the atoms before the `@`, split at each `/`
 abbrev pub components_of : List Atom → List (List ℕ)
 components_of text = map (map byte_of) (slice_split is_slash (before_at text))
 
--- the realm: the text after the first `@`, or else the default realm
+-- the realm of a name: the text after the first `@`, or else the default realm
 abbrev pub realm_of : List Atom → Option (List ℕ) → Option (List ℕ)
 realm_of text default_realm = option_or (option_map (map byte_of) (after_at text)) default_realm
 
--- the leftmost fault, or `NoRealm` if there is no realm, or else the name, of type 1: a principal
+-- the leftmost fault of a text, or `NoRealm` without a realm, or else the name, of type 1 (KRB5_NT_PRINCIPAL)
 abbrev pub name_or_fault : Option NameFault → Option (List ℕ) → List (List ℕ) → Result Parts NameFault
 name_or_fault (Some fault) realm components = Err fault
 name_or_fault None None components = Err NoRealm
 name_or_fault None (Some realm) components = Ok (record { name_type = 1; realm = realm; components = components })
 
--- the name that a text parses as, or its fault
+-- the name that a text parses as, with a default realm if one is given, or the fault of the text
 abbrev pub name_of : List ℕ → Option (List ℕ) → Result Parts NameFault
 name_of text default_realm = name_or_fault (first_fault (faults_of (atoms text))) (realm_of (atoms text) default_realm) (components_of (atoms text))
 

@@ -7,7 +7,7 @@ use Rattle.std.specs.Str.{bytes_eq}
 
 -- ---- the bytes of a component or a realm as text
 
--- a byte as text: `\/`, `\@`, `\\`; `\n`, `\t`, `\b`, `\0` for newline, tab, backspace, NUL; any other as itself
+-- a byte of a name as text: `/`, `@` and `\` have a backslash before them, newline, tab, backspace and NUL are `\n`, `\t`, `\b`, `\0`, and any other byte is itself
 abbrev pub quoted_byte : ℕ → List ℕ
 quoted_byte b =
     if b == 47 then 92 ∷ 47 ∷ []
@@ -23,22 +23,22 @@ quoted_byte b =
 abbrev pub IsPlain : ℕ → Type 0
 IsPlain b = quoted_byte b ≡ b ∷ []
 
--- a component or a realm as text
+-- a component or a realm as text, each byte quoted if it needs a backslash
 unfoldable pub quote : List ℕ → List ℕ
 quote bytes = flat_map quoted_byte bytes
 
 -- ---- names as text
 
--- the components as text, with a `/` between each two
+-- the components of a name as text, with a `/` between each two
 unfoldable pub joined_components : List (List ℕ) → List ℕ
 joined_components components = join_with_byte 47 (map quote components)
 
--- the text of a name: its components joined by `/`, an `@`, and its realm
+-- a name as text: its components joined by `/`, an `@`, and its realm
 abbrev pub name_text : Parts → List ℕ
 name_text p = joined_components p.components ++ (64 ∷ quote p.realm)
 
 -- ---- when two names are the same
 
--- the realms and the components are equal, whatever the name types are
+-- two names have equal realms and components; name types may differ
 abbrev pub have_same_name : Parts → Parts → Bool
 have_same_name p q = bytes_eq p.realm q.realm && pointwise bytes_eq p.components q.components

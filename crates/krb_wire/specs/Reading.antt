@@ -21,30 +21,30 @@ abbrev pub Gives : {X Y : Type 0} → (X → Y) → Option X → Option Y → Ty
 Gives view (Some x) read = read ≡ Some (view x)
 Gives view None read = read ≡ None
 
--- the number that the bytes begin with
+-- the number that bytes begin with, and the bytes after it
 abbrev pub number_at : Order → Width → List ℕ → Option (ℕ × List ℕ)
 number_at o w bytes = if nat_lt (length bytes) (byte_len w) then None else Some (number o w (take (byte_len w) bytes), drop (byte_len w) bytes)
 
--- the byte that the bytes begin with
+-- the first byte, and the bytes after it
 abbrev pub byte_at : List ℕ → Option (ℕ × List ℕ)
 byte_at [] = None
 byte_at (b ∷ rest) = Some (b, rest)
 
--- the first n bytes, and those after them
+-- the first n bytes, and the bytes after them
 abbrev pub bytes_at : ℕ → List ℕ → Option (List ℕ × List ℕ)
 bytes_at n bytes = if nat_lt (length bytes) n then None else Some (take n bytes, drop n bytes)
 
--- a length that the bytes begin with, and that many bytes
+-- the data after a length field that bytes begin with, and the bytes after the data
 abbrev pub counted_at : Order → Width → List ℕ → Option (List ℕ × List ℕ)
 counted_at o w bytes = do
   n ← number_at o w bytes
   bytes_at n.0 n.1
 
--- the counted data that the bytes begin with, with a length of 16 bits
+-- the data that bytes begin with, after a length of 16 bits
 unfoldable pub data16_at : Order → List ℕ → Option (List ℕ × List ℕ)
 data16_at o bytes = counted_at o w16 bytes
 
--- the counted data that the bytes begin with, with a length of 32 bits
+-- the data that bytes begin with, after a length of 32 bits
 unfoldable pub data32_at : Order → List ℕ → Option (List ℕ × List ℕ)
 data32_at o bytes = counted_at o w32 bytes
 
@@ -53,7 +53,7 @@ abbrev pub data_at : Lengths → List ℕ → Option (List ℕ × List ℕ)
 data_at (Bits16 o) = data16_at o
 data_at (Bits32 o) = data32_at o
 
--- the n items that the bytes begin with, each read by `read`
+-- n items one after the other, each as `read` reads it, and the bytes after them
 abbrev pub list_at : {X : Type 0} → (List ℕ → Option (X × List ℕ)) → ℕ → List ℕ → Option (List X × List ℕ)
 list_at read zero bytes = Some ([], bytes)
 list_at read (suc n) bytes = do
@@ -69,19 +69,19 @@ list_in read n bytes = unwrap_or (option_map (λ x. x.0) (list_at read n bytes))
 abbrev pub list_end : {X : Type 0} → (List ℕ → Option (X × List ℕ)) → ℕ → List ℕ → Option (List ℕ)
 list_end read n bytes = option_map (λ x. x.1) (list_at read n bytes)
 
--- the n components of a keytab's name that the bytes begin with
+-- the n components of a keytab's name, each with a length of 16 bits
 unfoldable pub components_at : Order → ℕ → List ℕ → Option (List (List ℕ) × List ℕ)
 components_at o n bytes = list_at (data16_at o) n bytes
 
--- how many components a count field means, or `None` if it is less than the realms that it counts
+-- how many components a name has by its count field, or `None` if a count of version 1 is too small to include the realm
 abbrev pub components_of_count : KtFormat → ℕ → Option ℕ
 components_of_count f n = if nat_lt n (counted_realms f) then None else Some (n - counted_realms f)
 
--- the name type that the bytes begin with, or 0 if the format has none
+-- the name type that bytes begin with; in version 1, where none is written, 0
 abbrev pub name_type_at : KtFormat → List ℕ → Option (ℕ × List ℕ)
 name_type_at f bytes = if has_name_type f then number_at Big w32 bytes else Some (0, bytes)
 
--- the name that the bytes begin with
+-- the name that bytes of a keytab begin with, and the bytes after the name
 unfoldable pub kt_principal_at : KtFormat → List ℕ → Option (Parts × List ℕ)
 kt_principal_at f bytes = do
   count ← number_at (order_of f) w16 bytes
@@ -91,7 +91,7 @@ kt_principal_at f bytes = do
   name_type ← name_type_at f components.1
   Some (record { name_type = name_type.0; realm = realm.0; components = components.0 }, name_type.1)
 
--- the name that the bytes begin with, as a credential cache spells it
+-- the name that bytes of a credential cache begin with, and the bytes after the name
 unfoldable pub cc_principal_at : List ℕ → Option (Parts × List ℕ)
 cc_principal_at bytes = do
   name_type ← number_at Big w32 bytes
@@ -105,7 +105,7 @@ abbrev pub ReadsAt : {X Y : Type 0} → (X → Y) → List ℕ → Option (X × 
 ReadsAt view bytes (Some x) read = (read ≡ Some (view x.0, drop x.1 bytes)) × (x.1 ≤ length bytes)
 ReadsAt view bytes None read = read ≡ None
 
--- the items of each vector
+-- vectors as lists
 abbrev pub items_of : {A Z : Type 0} → List (Vec A Z) → List (List A)
 items_of vs = map vec_items vs
 

@@ -9,63 +9,63 @@ use Rattle.krb_wire.specs.declared.format.Lengths.TheVariants.{Bits16, Bits32}
 use Rattle.krb_wire.specs.declared.format.KtFormat.{KtFormat}
 use Rattle.krb_wire.specs.declared.format.KtFormat.TheVariants.{V1, V2}
 
--- a name: its type, its realm and its components
+-- a principal name: its name type, its realm and its components
 pub record Parts : Type 0 where
   pub name_type : ℕ
   pub realm : List ℕ
   pub components : List (List ℕ)
 
--- the bytes of a number
+-- the bytes of a number of a width, in a byte order
 abbrev pub digits : Order → Width → ℕ → List ℕ
 digits Big w n = to_be_bytes w n
 digits Little w n = to_le_bytes w n
 
--- the number that the bytes encode
+-- the number that bytes encode in a byte order
 abbrev pub number : Order → Width → List ℕ → ℕ
 number Big w bytes = from_be_bytes w bytes
 number Little w bytes = from_le_bytes w bytes
 
--- a length of this width, and that many bytes
+-- bytes after a length field of this width that counts them
 abbrev pub counted : Order → Width → List ℕ → List ℕ
 counted o w bytes = digits o w (length bytes) ++ bytes
 
--- a length of 16 bits, and that many bytes
+-- bytes after a length of 16 bits
 abbrev pub data16 : Order → List ℕ → List ℕ
 data16 o bytes = counted o w16 bytes
 
--- a length of 32 bits, and that many bytes
+-- bytes after a length of 32 bits
 abbrev pub data32 : Order → List ℕ → List ℕ
 data32 o bytes = counted o w32 bytes
 
--- the second byte of a keytab
+-- the second byte of a keytab: its format version, 1 or 2
 abbrev pub version_byte : KtFormat → ℕ
 version_byte (V1 o) = 1
 version_byte V2 = 2
 
--- the byte order of its numbers
+-- the byte order of a keytab's numbers: version 2 is big-endian, version 1 has the writer's
 abbrev pub order_of : KtFormat → Order
 order_of (V1 o) = o
 order_of V2 = Big
 
--- how many realms are counted among the components
+-- how many realms the count of a name's components includes: one in version 1
 abbrev pub counted_realms : KtFormat → ℕ
 counted_realms (V1 o) = 1
 counted_realms V2 = 0
 
--- whether its names have a type
+-- names in a keytab have a name type: in version 2
 abbrev pub has_name_type : KtFormat → Bool
 has_name_type (V1 o) = false
 has_name_type V2 = true
 
--- the count field for that many components
+-- the count of components that is written for a name of n components
 abbrev pub count_field : KtFormat → ℕ → ℕ
 count_field f n = n + counted_realms f
 
--- the bytes of a name type
+-- the bytes of a name type: none in version 1
 abbrev pub name_type_field : KtFormat → ℕ → List ℕ
 name_type_field f t = if has_name_type f then digits Big w32 t else []
 
--- the encoding of a name in a keytab
+-- a name as a keytab spells it
 abbrev pub kt_principal : KtFormat → Parts → List ℕ
 kt_principal f p =
     digits (order_of f) w16 (count_field f (length p.components))
@@ -81,11 +81,11 @@ HasNameType V2 t = t < 2 ^ 32
 abbrev pub IsShort : List ℕ → Type 0
 IsShort bytes = length bytes < 2 ^ 16
 
--- whether the length of the bytes fits 16 bits
+-- the length of bytes fits a field of 16 bits
 abbrev pub is_short : List ℕ → Bool
 is_short bytes = nat_lt (length bytes) (2 ^ 16)
 
--- whether each length and count of a name fits its 16 bits: then it can be written (version 1 leaves the name type out)
+-- each length and count of a name fits its field of 16 bits, so the name can be written to a keytab (version 1 leaves the name type out)
 abbrev pub name_fits : KtFormat → Parts → Bool
 name_fits f p = nat_lt (count_field f (length p.components)) (2 ^ 16) && (is_short p.realm && list_all is_short p.components)
 
@@ -94,7 +94,7 @@ pub record FitsKt (f : KtFormat) (p : Parts) : Type 0 where
   pub lengths : IsTrue (name_fits f p)
   pub name_type : HasNameType f p.name_type
 
--- the encoding of a name in a credential cache
+-- a name as a credential cache spells it
 abbrev pub cc_principal : Parts → List ℕ
 cc_principal p =
     digits Big w32 p.name_type
