@@ -22,26 +22,26 @@ use Rattle.krb_findings.specs.Table.{all_findings, has_some, joined, none, row_o
 abbrev pub is_open : ℕ → Bool
 is_open mode = not (bit_and mode 0o66 == 0)
 
--- others may read or write it
+-- others may read or write a file of this mode
 abbrev pub is_open_to_all : ℕ → Bool
 is_open_to_all mode = not (bit_and mode 0o6 == 0)
 
--- a plain file has a mode for which this holds
+-- a file is plain and has a mode of which a rule holds
 abbrev pub has_mode : (ℕ → Bool) → Option ℕ → Bool
 has_mode holds None = false
 has_mode holds (Some mode) = holds mode
 
 -- ---- names that have to be there
 
--- an entry's name prints as that text
+-- the name of an entry prints as a text
 abbrev pub prints_as : List ℕ → PlacedEntry → Bool
 prints_as text x = bytes_eq (name_text x.1.principal) text
 
--- texts with one more, unless it is among them
+-- texts and one more text, unless it is already one of them
 abbrev pub added_once : List (List ℕ) → List ℕ → List (List ℕ)
 added_once texts text = if list_any (bytes_eq text) texts then texts else texts ++ text ∷ []
 
--- the texts that no entry's name prints as, each once
+-- the names that are wanted, as texts, and that no entry has, each once
 abbrev pub missing_among : List (List ℕ) → List PlacedEntry → List (List ℕ)
 missing_among wanted xs = filter (λ text. not (list_any (prints_as text) xs)) (fold added_once [] wanted)
 
@@ -52,11 +52,11 @@ abbrev pub is_hole : Cell → Bool
 is_hole (Live b) = false
 is_hole (Free b) = true
 
--- the holes
+-- the holes among cells
 abbrev pub holes : List Cell → List Cell
 holes cells = filter is_hole cells
 
--- the number of entries, the total size of the holes, and the number of holes
+-- the counts of a keytab: its entries, the bytes of its holes, and its holes
 abbrev pub counts_of : KeytabState → Counts
 counts_of k = record { entries = length (placed_entries k); free = sum_by size (holes k.contents.cells); holes = length (holes k.contents.cells) }
 
@@ -64,7 +64,7 @@ counts_of k = record { entries = length (placed_entries k); free = sum_by size (
 abbrev pub is_empty : KeytabState → Bool
 is_empty k = length (placed_entries k) == 0 && is_none (fault_of (store_of k))
 
--- what a check of a keytab finds; of its entries those about which something is found
+-- what a check finds in a keytab: its mode, the entries about which something is found, whether it is empty, the names that are missing, its fault, its counts, and its weak enctypes
 pub record CheckParts : Type 0 where
   pub mode : Option ℕ
   pub entries : List Marked
@@ -74,7 +74,7 @@ pub record CheckParts : Type 0 where
   pub counts : Counts
   pub weak_etypes : WeakEtypes
 
--- what is found about a keytab, whose file has this mode if it is a plain file: an entry is aged by that second, if one is given, and these names are wanted
+-- what a check finds in a keytab, by the mode of its file, the time by which entries are aged, and the names that are wanted
 abbrev pub checked : Option ℕ → Option ℕ → List (List ℕ) → KeytabState → CheckParts
 checked mode aged_by wanted k = record {
   mode = mode;
@@ -86,24 +86,24 @@ checked mode aged_by wanted k = record {
   weak_etypes = weak_among (placed_entries k);
 }
 
--- what is found about some entries
+-- the findings about some entries, together
 abbrev pub about_entries : List Marked → FindingSet
 about_entries entries = fold (λ s m. joined s m.1.findings) none entries
 
--- which findings there are
+-- the findings of a check: those about entries and those about the file
 abbrev pub findings_of : CheckParts → FindingSet
 findings_of c =
     with_if (nat_lt 0 (length c.missing)) Missing (with_if c.is_empty Empty (with_if (has_mode is_open c.mode) Mode (about_entries c.entries)))
 
--- a finding makes the status 1: a mode does if others may read or write the file
+-- a finding counts for the status: an open mode only if others may read or write the file
 abbrev pub counts_at : Option ℕ → Finding → Bool
 counts_at mode Mode = has_mode is_open_to_all mode
 counts_at mode finding = (row_of finding).counts
 
--- the findings that do not count for the status: those that are allowed, and those that do not make it 1
+-- the findings that do not count for the status, by the mode of the file and what is allowed
 abbrev pub uncounted : Option ℕ → FindingSet → FindingSet
 uncounted mode allowed = fold (λ s f. with_if (not (counts_at mode f)) f s) allowed all_findings
 
--- something is wrong: a finding that counts, or a fault
+-- a check has something wrong: a finding that counts for the status, or the fault of a damaged keytab
 abbrev pub is_wrong : FindingSet → CheckParts → Bool
 is_wrong allowed c = has_some (without (findings_of c) (uncounted c.mode allowed)) || is_some c.fault

@@ -15,64 +15,64 @@ use Rattle.krb_audit.specs.Newest.{is_old}
 use Rattle.krb_findings.specs.Table.{has_some, set_of}
 use Rattle.krb_names.specs.Twins.{are_twins}
 
--- a count or a length with which MIT's programs read no entry
+-- a count or a length makes MIT's programs stop before an entry: it is 0 or above 32,767
 abbrev pub is_out : ℕ → Bool
 is_out n = n == 0 || nat_lt 32767 n
 
--- MIT's programs silently stop before this entry
+-- MIT's programs silently stop before an entry: by the count of its components, or the length of a component, its realm or its key
 abbrev pub ends_mit : EntryParts → Bool
 ends_mit e =
     is_out (length e.principal.components)
     || (is_out (length e.principal.realm) || (list_any (λ c. is_out (length c)) e.principal.components || is_out (length e.key)))
 
--- the place of the first of some entries before which they stop
+-- the place of the first entry before which MIT's programs stop
 abbrev pub first_hidden : List PlacedEntry → Option ℕ
 first_hidden xs = option_map (λ x. x.0) (find (λ x. ends_mit x.1) xs)
 
--- the place from which on they see no entry of a keytab
+-- the place in a keytab from which on MIT's programs see no entry, if there is one
 abbrev pub hidden_from : KeytabState → Option ℕ
 hidden_from k = first_hidden (placed_entries k)
 
--- `from`, if one of `places` is at or after it
+-- the place `from`, if one of the places is there or later
 abbrev pub hidden_at : List ℕ → ℕ → Option ℕ
 hidden_at places from = if list_any (λ p. nat_le from p) places then Some from else None
 
--- the place from which on they see no entry, if an entry was added there or later
+-- the place from which on MIT's programs see no entry, if an entry that was added is there or later
 abbrev pub hides_added : KeytabState → List ℕ → Option ℕ
 hides_added k added = option_and_then (hidden_at added) (hidden_from k)
 
--- the second entry has the name, the kvno and the enctype of the first
+-- two entries have the same name, kvno and enctype
 abbrev pub is_alike : PlacedEntry → PlacedEntry → Bool
 is_alike x y = are_twins x.1 y.1
 
--- what is known of an entry `y` that is alike to a later one, `x`: its place, and whether it has the same key
+-- what is known of an entry y that is alike to a later entry x: its place, and whether the keys are equal
 abbrev pub as_alike : PlacedEntry → PlacedEntry → Alike
 as_alike x y = record { place = y.0; has_same_key = bytes_eq y.1.key x.1.key }
 
--- the same of the first of the entries before `x` that is alike, if there is one
+-- the first of the entries before x that has its name, kvno and enctype: its place, and whether the keys are equal
 abbrev pub first_alike : List PlacedEntry → PlacedEntry → Option Alike
 first_alike before x = option_map (as_alike x) (find (is_alike x) before)
 
--- there is one, with the same key
+-- an earlier entry has the same name, kvno, enctype and key
 abbrev pub repeats : Option Alike → Bool
 repeats None = false
 repeats (Some first) = first.has_same_key
 
--- there is one, with another key
+-- an earlier entry has the same name, kvno and enctype, and another key
 abbrev pub clashes : Option Alike → Bool
 clashes None = false
 clashes (Some first) = not first.has_same_key
 
--- a key is not as long as its enctype's, if that has a length
+-- the key of an entry has not the size of its enctype's keys
 abbrev pub has_odd_size : EntryParts → Bool
 has_odd_size e = not (is_key_size e.enctype (length e.key))
 
--- an entry has a time, which is at or before a second, if one is given
+-- an entry is aged by a second, if one is given: the entry has a time, and it is at or before the second
 abbrev pub is_aged : Option ℕ → EntryParts → Bool
 is_aged None e = false
 is_aged (Some by) e = not (e.timestamp == 0) && nat_le e.timestamp by
 
--- a finding about an entry of a keytab, if `before` are the entries before it
+-- a finding holds of an entry x of the keytab k, after the entries `before`
 abbrev pub is_found : Option ℕ → KeytabState → List PlacedEntry → PlacedEntry → Finding → Bool
 is_found aged_by k before x Weak = is_weak x.1.enctype
 is_found aged_by k before x Size = has_odd_size x.1
@@ -83,36 +83,36 @@ is_found aged_by k before x Old = is_old (placed_entries k) x.1
 is_found aged_by k before x Aged = not (is_old (placed_entries k) x.1) && is_aged aged_by x.1
 is_found aged_by k before x finding = false
 
--- what is found about it
+-- what is found about an entry x of the keytab k, after the entries `before`
 abbrev pub marks_of : Option ℕ → KeytabState → List PlacedEntry → PlacedEntry → Marks
 marks_of aged_by k before x = record {
   findings = set_of (is_found aged_by k before x);
   first = option_map (λ first. first.place) (first_alike before x);
 }
 
--- the place of the first entry that is alike, if a finding is about that
+-- the place of the earlier entry that a finding is about: that of the same name, kvno and enctype
 abbrev pub first_for : Marks → Finding → Option ℕ
 first_for marks Same = marks.first
 first_for marks Clash = marks.first
 first_for marks finding = None
 
--- a weak enctype that one of some entries has
+-- an enctype is weak, and one of the entries has it
 abbrev pub is_weak_among : List PlacedEntry → ℕ → Bool
 is_weak_among xs etype = is_weak etype && list_any (λ x. x.1.enctype == etype) xs
 
--- which numbers below 27 are weak enctypes that some entries have
+-- the weak enctypes below 27 that the entries have
 unfoldable pub weak_among : List PlacedEntry → WeakEtypes
 weak_among xs = record { found = map (is_weak_among xs) (range_with_len 0 27) }
 
--- an entry, and what is found about it
+-- an entry with its place, and what is found about it
 abbrev pub Marked : Type 0
 Marked = PlacedEntry × Marks
 
--- some entries, with what is found about each, if `before` are the entries before them
+-- entries with what is found about each, after the entries `before`
 abbrev pub marked_after : Option ℕ → KeytabState → List PlacedEntry → List PlacedEntry → List Marked
 marked_after aged_by k before [] = []
 marked_after aged_by k before (x ∷ xs) = (x, marks_of aged_by k before x) ∷ marked_after aged_by k (before ++ x ∷ []) xs
 
--- the entries of a keytab about which something is found, with that
+-- the entries of a keytab about which something is found, with what that is
 abbrev pub reported : Option ℕ → KeytabState → List Marked
 reported aged_by k = filter (λ m. has_some m.1.findings) (marked_after aged_by k [] (placed_entries k))

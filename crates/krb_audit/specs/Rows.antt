@@ -34,11 +34,11 @@ newer_stamp newest later = option_map stamp_of (newer (option_map stamped newest
 abbrev pub newest_stamp : Parts → List PlacedEntry → Option Stamp
 newest_stamp name xs = option_map stamp_of (newest name xs)
 
--- the number of the first entry of a name, if entries are numbered from n on
+-- the number of the first entry of a name among entries, if the first has number n
 abbrev pub first_from : ℕ → Parts → List PlacedEntry → Option ℕ
 first_from n name xs = position_from (λ x. have_same_name name x.1.principal) n xs
 
--- the number of the first entry of a name
+-- the number of the first entry of a name among entries
 abbrev pub first_number : Parts → List PlacedEntry → Option ℕ
 first_number name xs = first_from 0 name xs
 

@@ -12,7 +12,7 @@ use Rattle.krb_ccache.specs.Store.{CacheState, PlacedCredential, placed_credenti
 use Rattle.krb_audit.specs.declared.tickets.SelectedTickets.{SelectedTickets}
 use Rattle.krb_audit.specs.Selection.{has_text}
 
--- a name is that of a service, not of the ticket-granting one: its first component, if any, is not `krbtgt`
+-- a server is a service, and not a ticket-granting one: its first component is not `krbtgt`
 abbrev pub is_service : Parts → Bool
 is_service p = not (option_map_or (λ first. bytes_eq first (codes "krbtgt")) (slice_get p.components 0) false)
 
@@ -20,21 +20,21 @@ is_service p = not (option_map_or (λ first. bytes_eq first (codes "krbtgt")) (s
 abbrev pub is_of_gssproxy : Parts → Bool
 is_of_gssproxy p = bytes_eq p.realm (codes "X-GSSPROXY:")
 
--- a ticket's server, or the one that it names itself, prints as a selected name; if none are given, its server is not of gssproxy
+-- the server of a ticket, or the one that the ticket itself names, prints as a selected name; without names any server but gssproxy's is selected
 abbrev pub has_selected_server : List (List ℕ) → CredParts → Bool
 has_selected_server [] c = not (is_of_gssproxy c.server)
 has_selected_server servers c = has_text servers c.server || option_map_or (has_text servers) (ticket_server c.ticket) false
 
--- a credential is a ticket, of a service if only those are selected, for a selected server
+-- a credential is a ticket for a selected server, and for a service if only services are selected
 abbrev pub names_ticket : List (List ℕ) → Bool → CredParts → Bool
 names_ticket servers services c = not (is_config c) && ((not services || is_service c.server) && has_selected_server servers c)
 
--- a credential has an end time, which is at or before a second, if one is given; without one it does not end
+-- a credential has ended by a second: it has an end time, at or before the second; without a second the end does not matter
 abbrev pub has_ended_by : Option ℕ → CredParts → Bool
 has_ended_by None c = true
 has_ended_by (Some now) c = not (c.times.endtime == 0) && nat_le c.times.endtime now
 
--- the selected tickets among some credentials
+-- the tickets that are selected among credentials
 abbrev pub tickets_among : List (List ℕ) → Bool → Option ℕ → List PlacedCredential → List PlacedCredential
 tickets_among servers services ended_by xs = filter (λ x. names_ticket servers services x.1 && has_ended_by ended_by x.1) xs
 
@@ -42,7 +42,7 @@ tickets_among servers services ended_by xs = filter (λ x. names_ticket servers 
 abbrev pub selected_tickets : List (List ℕ) → Bool → Option ℕ → CacheState → List PlacedCredential
 selected_tickets servers services ended_by k = tickets_among servers services ended_by (placed_credentials k)
 
--- the line that reports a ticket removed
+-- the line that reports a ticket as removed: its place and its server
 abbrev pub removed_ticket_line : PlacedCredential → List ℕ
 removed_ticket_line x = codes "removed " ++ (decimal x.0 ++ (codes " " ++ (name_text x.1.server ++ codes "\n")))
 

@@ -21,11 +21,11 @@ use Rattle.krb_text.specs.Escape.{escaped_text}
 abbrev pub valid_from : Times → ℕ
 valid_from t = if t.starttime == 0 then t.authtime else t.starttime
 
--- a time and a space
+-- a time in the line of a ticket, and a space
 abbrev pub instant : ℕ → List ℕ
 instant seconds = time_text_of seconds ++ codes " "
 
--- when a ticket becomes valid and when it expires
+-- when a ticket becomes valid and when it expires, in its line
 abbrev pub validity : Times → List ℕ
 validity t = instant (valid_from t) ++ instant t.endtime
 
@@ -33,7 +33,7 @@ validity t = instant (valid_from t) ++ instant t.endtime
 unfoldable pub ticket_line : CredParts → List ℕ
 ticket_line c = validity c.times ++ (name_text c.server ++ codes "\n")
 
--- the line that says until when a ticket can be renewed, if it can be
+-- the line that says until when a ticket can be renewed, unless its renew-till is 0
 unfoldable pub renew_line : ℕ → List ℕ
 renew_line seconds = if seconds == 0 then [] else codes "    renew until " ++ (time_text_of seconds ++ codes "\n")
 
@@ -41,7 +41,7 @@ renew_line seconds = if seconds == 0 then [] else codes "    renew until " ++ (t
 unfoldable pub flags_line : Bool → ℕ → List ℕ
 flags_line is_shown flags = if is_shown then codes "    Flags: " ++ (flag_letters_of flags ++ codes "\n") else []
 
--- the line with the enctype of a session key, if that is shown
+-- the line with the enctype of a ticket's session key, if enctypes are shown
 unfoldable pub etype_line : Bool → ℕ → List ℕ
 etype_line is_shown etype = if is_shown then codes "    Etype: " ++ (etype_text_of etype ++ codes "\n") else []
 
@@ -49,7 +49,7 @@ etype_line is_shown etype = if is_shown then codes "    Etype: " ++ (etype_text_
 abbrev pub ticket_lines : CcColumns → CredParts → List ℕ
 ticket_lines columns c = ticket_line c ++ (renew_line c.times.renew_till ++ (flags_line columns.flags c.flags ++ etype_line columns.etypes c.key.enctype))
 
--- the principal that a configuration entry is about, in parentheses, if there is one
+-- the principal that a configuration entry is about, in parentheses
 abbrev pub about : Option (List ℕ) → List ℕ
 about None = []
 about (Some text) = codes "(" ++ (escaped_text text ++ codes ")")
@@ -58,7 +58,7 @@ about (Some text) = codes "(" ++ (escaped_text text ++ codes ")")
 unfoldable pub config_line : ConfigParts → List ℕ → List ℕ
 config_line name value = codes "config: " ++ (escaped_text name.key ++ (about name.principal ++ (codes " = " ++ (escaped_text value ++ codes "\n"))))
 
--- the lines of a ticket, or that of a configuration entry if those are shown
+-- the lines of a credential: of a ticket, or of a configuration entry if those are shown
 abbrev pub lines_by : Option ConfigParts → CcColumns → CredParts → List ℕ
 lines_by None columns c = ticket_lines columns c
 lines_by (Some name) columns c = if columns.configs then config_line name c.ticket else []
@@ -69,7 +69,7 @@ credential_lines columns c = lines_by (config_name c.server) columns c
 
 -- ---- the listing of a cache
 
--- what comes before the credentials: the file name, the default principal, and the column titles
+-- the heading of a cache's listing: the file's name, the default principal, and column titles
 abbrev pub cache_heading : List ℕ → Parts → List ℕ
 cache_heading name principal =
     codes "Ticket cache: FILE:" ++ (name ++ (codes "\nDefault principal: " ++ (name_text principal
@@ -79,7 +79,7 @@ cache_heading name principal =
 abbrev pub lines_of_credentials : CcColumns → List PlacedCredential → List ℕ
 lines_of_credentials columns xs = flat_map (λ x. credential_lines columns x.1) xs
 
--- the listing of a cache with this file name
+-- the listing of a cache: the heading with the name of the file, the credentials' lines, and the fault if there is one
 abbrev pub cache_text : CcColumns → List ℕ → CacheState → List ℕ
 cache_text columns name k =
     cache_heading name k.principal ++ (lines_of_credentials columns (placed_credentials k) ++ fault_line (fault_of (store_of k)))

@@ -22,12 +22,12 @@ abbrev pub tail_by : Option ConfigParts → CredParts → List ℕ
 tail_by None c = ticket_tail c
 tail_by (Some name) c = config_tail name
 
--- the end of the line of a record that holds the credential; if it held none, the line would end there
+-- the end of the line of a record: its credential
 abbrev pub credential_tail : Option CredParts → List ℕ
 credential_tail None = codes "\n"
 credential_tail (Some c) = tail_by (config_name c.server) c
 
--- the end of the line of a record with these bytes
+-- the end of the line of a record with these bytes in a cache of a version
 abbrev pub cache_record_tail : Version → List ℕ → List ℕ
 cache_record_tail version bytes = credential_tail (credential_in version bytes)
 

@@ -16,7 +16,7 @@ use Rattle.krb_ccache.specs.Header.{Field, header}
 use Rattle.krb_ccache.specs.Store.{CacheState, first_place, placed_from, image_of, store_of}
 use Rattle.krb_ccache.specs.Open.{InMemory}
 
--- a cache of this version refuses additions and removals: version 3 does
+-- a cache of this version refuses additions and removals: version 3
 abbrev pub is_read_only : Version → Bool
 is_read_only V3 = true
 is_read_only V4 = false
@@ -55,55 +55,55 @@ RefusesAs given NoMemory = IsOk given
 
 -- ---- removing
 
--- the credential with the removed mark
+-- a credential with the removed mark
 abbrev pub add_mark : CredParts → CredParts
 add_mark c = record c { times = marked_times c.times }
 
--- the credentials, with the mark on the one at a place
+-- credentials, where the one at the place p has the removed mark
 abbrev pub add_mark_at : Version → ℕ → ℕ → List CredParts → List CredParts
 add_mark_at v at p cs = map (λ x. if x.0 == p then add_mark x.1 else x.1) (placed_from v at cs)
 
--- the cache with the credential at a place marked, and all else unchanged
+-- a cache after the removal of a credential: the credential at a place has the removed mark, and all else is unchanged
 abbrev pub with_mark : CacheState → ℕ → CacheState
 with_mark k p = record k { contents = record { cells = add_mark_at k.version (first_place k) p k.contents.cells; end = k.contents.end } }
 
--- what a removal gives: version 3 refuses it, then a damaged cache, then each place without a live credential
+-- the result of removing the credential at a place: version 3 refuses, then a damaged cache, then a place where no live credential begins
 abbrev pub cut_result : CacheState → ℕ → Result CacheState Code
 cut_result k p =
     if is_read_only k.version then Err code.ReadOnly
     else (if is_some (fault_of (store_of k)) then Err code.Damaged
     else (if is_some (live_bytes (store_of k) p) then Ok (with_mark k p) else Err code.NotLive))
 
--- what removals at these places, one after the other, leave: a refused one changes nothing
+-- a cache after the removal of the credentials at these places; a removal that is refused changes nothing
 abbrev pub without : CacheState → List ℕ → CacheState
 without k [] = k
 without k (p ∷ ps) = without (cut_store k (cut_result k p)) ps
 
 -- ---- adding
 
--- the cache with a credential appended
+-- a cache with a credential appended
 abbrev pub with_last : CacheState → CredParts → CacheState
 with_last k c = record k { contents = record { cells = k.contents.cells ++ c ∷ []; end = k.contents.end } }
 
--- what appending a credential gives: it is refused if the image would be longer than the limit
+-- the result of appending a credential: its place and the cache, refused if the image would be longer than the limit
 abbrev pub append_result : CacheState → CredParts → Result (ℕ × CacheState) Code
 append_result k c =
     if nat_lt k.limit (length (image_of (with_last k c))) then Err code.Full
     else Ok (end_of (store_of k), with_last k c)
 
--- what an addition gives: version 3 refuses it, then a damaged cache, then a credential that has the removed mark
+-- the result of adding a credential: version 3 refuses, then a damaged cache, then a credential with the removed mark
 abbrev pub put_result : CacheState → CredParts → Result (ℕ × CacheState) Code
 put_result k c =
     if is_read_only k.version then Err code.ReadOnly
     else (if is_some (fault_of (store_of k)) then Err code.Damaged
     else (if is_marked c then Err code.Marked else append_result k c))
 
--- an addition is refused
+-- the addition of a credential is refused
 abbrev pub is_refused : Result (ℕ × CacheState) Code → Bool
 is_refused (Ok given) = false
 is_refused (Err refused) = true
 
--- an addition takes no memory if it is refused
+-- the addition of a credential takes no memory: it is refused
 abbrev pub takes_none : CacheState → CredParts → Bool
 takes_none k c = is_refused (put_result k c)
 

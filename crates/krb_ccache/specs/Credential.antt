@@ -11,18 +11,18 @@ use Rattle.krb_ccache.specs.declared.version.Version.{Version}
 use Rattle.krb_ccache.specs.declared.version.Version.TheVariants.{V3, V4}
 use Rattle.krb_ccache.specs.declared.credential.times.Times.{Times}
 
--- an address, or an element of authorization data: its type and its bytes
+-- an address, or an element of authorization data: a type and bytes
 pub record TypedData : Type 0 where
   pub kind : ℕ
   pub bytes : List ℕ
 
--- a key and its enctype; version 3 writes an enctype twice, and the second is read but never used
+-- a session key and its enctype; version 3 writes the enctype twice, and the second one is read and not used
 pub record Key : Type 0 where
   pub enctype : ℕ
   pub second_enctype : ℕ
   pub bytes : List ℕ
 
--- the fields of a credential, without their addresses in memory
+-- a credential: client, server, session key, times, flags, addresses, authorization data, the ticket, and the second ticket
 pub record CredParts : Type 0 where
   pub client : Parts
   pub server : Parts
@@ -35,46 +35,46 @@ pub record CredParts : Type 0 where
   pub ticket : List ℕ
   pub second_ticket : List ℕ
 
--- the removed mark, which is this project's own: endtime 0 and the greatest authtime
+-- times are the removed mark, which is krbfile's own: endtime 0 and the greatest authtime
 abbrev pub is_mark : Times → Bool
 is_mark t = t.endtime == 0 && t.authtime == 4294967295
 
--- the times with the mark
+-- times with the removed mark
 abbrev pub marked_times : Times → Times
 marked_times t = record { authtime = 4294967295; starttime = t.starttime; endtime = 0; renew_till = t.renew_till }
 
--- a credential is removed: it has the mark
+-- a credential is removed: its times are the removed mark
 abbrev pub is_marked : CredParts → Bool
 is_marked c = is_mark c.times
 
 -- ---- spelling
 
--- a 32-bit big-endian number
+-- the four bytes of a number, big-endian
 abbrev pub number32 : ℕ → List ℕ
 number32 n = digits Big w32 n
 
--- the type, and the bytes after their length
+-- the bytes of an address or an element: its type, its length and its bytes
 abbrev pub typed_data : TypedData → List ℕ
 typed_data x = digits Big w16 x.kind ++ data32 Big x.bytes
 
--- the number of items, and each of them
+-- the bytes of a list of addresses or elements: their number, and each of them
 abbrev pub typed_list : List TypedData → List ℕ
 typed_list xs = number32 (length xs) ++ flat_map typed_data xs
 
--- the second enctype, which version 4 does not have
+-- the second enctype of a session key, which version 4 does not have
 abbrev pub second_enctype_field : Version → ℕ → List ℕ
 second_enctype_field V3 n = digits Big w16 n
 second_enctype_field V4 n = []
 
--- the enctype, in version 3 twice, and the key
+-- the bytes of a session key: the enctype, in version 3 twice, and the key
 abbrev pub key : Version → Key → List ℕ
 key v k = digits Big w16 k.enctype ++ (second_enctype_field v k.second_enctype ++ data32 Big k.bytes)
 
--- the four times
+-- the bytes of a credential's four times
 abbrev pub times : Times → List ℕ
 times t = number32 t.authtime ++ (number32 t.starttime ++ (number32 t.endtime ++ number32 t.renew_till))
 
--- the spelling of a credential
+-- the bytes of a credential
 abbrev pub credential : Version → CredParts → List ℕ
 credential v c =
     cc_principal c.client ++ (cc_principal c.server ++ (key v c.key ++ (times c.times
@@ -126,25 +126,25 @@ pub record FitsCredential (v : Version) (c : CredParts) : Type 0 where
 
 -- ---- reading
 
--- the typed item that the bytes begin with
+-- the address or element that bytes begin with, and the bytes after it
 unfoldable pub typed_data_at : List ℕ → Option (TypedData × List ℕ)
 typed_data_at bytes = do
   kind ← number_at Big w16 bytes
   text ← data32_at Big kind.1
   Some (record { kind = kind.0; bytes = text.0 }, text.1)
 
--- the list of typed items that the bytes begin with
+-- the list of addresses or elements that bytes begin with, and the bytes after it
 unfoldable pub typed_list_at : List ℕ → Option (List TypedData × List ℕ)
 typed_list_at bytes = do
   count ← number_at Big w32 bytes
   list_at typed_data_at count.0 count.1
 
--- the second enctype that the bytes begin with; version 4 has none, and it reads as 0
+-- the second enctype that bytes begin with; in version 4, where none is written, 0
 abbrev pub second_enctype_at : Version → List ℕ → Option (ℕ × List ℕ)
 second_enctype_at V3 bytes = number_at Big w16 bytes
 second_enctype_at V4 bytes = Some (0, bytes)
 
--- the key that the bytes begin with
+-- the session key that bytes begin with, and the bytes after it
 unfoldable pub key_at : Version → List ℕ → Option (Key × List ℕ)
 key_at v bytes = do
   enctype ← number_at Big w16 bytes
@@ -152,7 +152,7 @@ key_at v bytes = do
   text ← data32_at Big again.1
   Some (record { enctype = enctype.0; second_enctype = again.0; bytes = text.0 }, text.1)
 
--- the four times that the bytes begin with
+-- the four times that bytes begin with, and the bytes after them
 unfoldable pub times_at : List ℕ → Option (Times × List ℕ)
 times_at bytes = do
   authtime ← number_at Big w32 bytes
@@ -161,7 +161,7 @@ times_at bytes = do
   renew_till ← number_at Big w32 endtime.1
   Some (record { authtime = authtime.0; starttime = starttime.0; endtime = endtime.0; renew_till = renew_till.0 }, renew_till.1)
 
--- the credential that the bytes begin with
+-- the credential that bytes begin with, and the bytes after it
 unfoldable pub credential_at : Version → List ℕ → Option (CredParts × List ℕ)
 credential_at v bytes = do
   client ← cc_principal_at bytes
@@ -200,11 +200,11 @@ owned_typed x = record { kind = x.0; bytes = vec_items x.1 }
 abbrev pub owned_list : {A : Type 0} → List (ℕ × Vec ℕ A) → List TypedData
 owned_list xs = map owned_typed xs
 
--- a key with one enctype
+-- a session key whose enctype is written once
 abbrev pub plain_key : ℕ → List ℕ → Key
 plain_key enctype bytes = record { enctype = enctype; second_enctype = 0; bytes = bytes }
 
--- the credential as version 4 has it, with one enctype
+-- a credential as version 4 has it, with one enctype
 abbrev pub in_version_4 : CredParts → CredParts
 in_version_4 c = record c { key = plain_key c.key.enctype c.key.bytes }
 
@@ -222,6 +222,6 @@ middle_text c = key V4 c.key ++ (times c.times ++ ((c.is_skey ∷ []) ++ number3
 abbrev pub lists_text : CredParts → List ℕ
 lists_text c = typed_list c.addresses ++ (typed_list c.authdata ++ (data32 Big c.ticket ++ data32 Big c.second_ticket))
 
--- the credential that the bytes begin with
+-- the credential that bytes begin with
 abbrev pub credential_in : Version → List ℕ → Option CredParts
 credential_in v bytes = option_map (λ x. x.0) (credential_at v bytes)

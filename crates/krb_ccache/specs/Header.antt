@@ -11,12 +11,12 @@ use Rattle.krb_ccache.specs.declared.version.Version.{Version}
 use Rattle.krb_ccache.specs.declared.version.Version.TheVariants.{V3, V4}
 use Rattle.krb_ccache.specs.declared.offset.Offset.{Offset}
 
--- a field: its tag and its value
+-- a field of a header: its tag and its value
 pub record Field : Type 0 where
   pub tag : ℕ
   pub value : List ℕ
 
--- the spelling of a field
+-- the bytes of a header's field: its tag, its length and its value
 abbrev pub field : Field → List ℕ
 field x = digits Big w16 x.tag ++ data16 Big x.value
 
@@ -25,7 +25,7 @@ pub record FitsField (x : Field) : Type 0 where
   pub tag : x.tag < 2 ^ 16
   pub value : IsShort x.value
 
--- the spelling of a header: version 3 has none
+-- the bytes of a header, of its length and its fields; version 3 has none
 abbrev pub header : Version → List Field → List ℕ
 header V3 xs = []
 header V4 xs = data16 Big (flat_map field xs)
@@ -37,27 +37,27 @@ FitsHeader V4 xs = AllByRecursion FitsField xs × IsShort (flat_map field xs)
 
 -- ---- reading
 
--- the field that the bytes begin with
+-- the field of a header that bytes begin with, and the bytes after it
 unfoldable pub field_at : List ℕ → Option (Field × List ℕ)
 field_at bytes = do
   tag ← number_at Big w16 bytes
   value ← data16_at Big tag.1
   Some (record { tag = tag.0; value = value.0 }, value.1)
 
--- fields one after the other
+-- the format of a header's fields, one after the other
 abbrev pub fields_format : Format Field (List ℕ)
 fields_format = unframed field_at field
 
--- the cells, if nothing is left after them
+-- the fields of a header, if no bytes are left after them
 abbrev pub only_cells : {C : Type 0} → List C → List ℕ → Option (List C)
 only_cells xs [] = Some xs
 only_cells xs (b ∷ bs) = None
 
--- the fields that fill the bytes exactly
+-- the fields that fill the bytes of a header
 abbrev pub fields_in : List ℕ → Option (List Field)
 fields_in bytes = only_cells (contents fields_format bytes).cells (contents fields_format bytes).end
 
--- the header that the bytes begin with
+-- the header that bytes begin with, and the bytes after it
 unfoldable pub header_at : Version → List ℕ → Option (List Field × List ℕ)
 header_at V3 bytes = Some ([], bytes)
 header_at V4 bytes = do
@@ -67,23 +67,23 @@ header_at V4 bytes = do
 
 -- ---- the time offset
 
--- eight bytes as a time offset: seconds and microseconds, both signed
+-- the time offset in a field of eight bytes: seconds and microseconds, both signed
 abbrev pub offset_from : List ℕ → Offset
 offset_from bytes = record {
   seconds = cast_signed w32 (from_be_bytes w32 (take 4 bytes));
   micros = cast_signed w32 (from_be_bytes w32 (drop 4 bytes));
 }
 
--- the offset of a field that has one: its tag is 1, and its length 8
+-- the time offset of a header's field, if its tag is 1 and its length 8
 abbrev pub offset_of : Field → Option Offset
 offset_of x = if x.tag == 1 && length x.value == 8 then Some (offset_from x.value) else None
 
--- the first of a list, if there is one
+-- the first of a list
 abbrev pub first_of : {T : Type 0} → List T → Option T
 first_of [] = None
 first_of (x ∷ xs) = Some x
 
--- the time offset of a header: that of the first field that has one
+-- the time offset of a header: that of its first field of tag 1 and length 8
 abbrev pub offset_in : List Field → Option Offset
 offset_in xs = first_of (filter_map offset_of xs)
 

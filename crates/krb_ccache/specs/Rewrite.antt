@@ -16,11 +16,11 @@ use Rattle.krb_wire.specs.Reading.{◌>>=◌, number_at, cc_principal_at}
 use Rattle.krb_cells.specs.Contents.{contents}
 use Rattle.krb_ccache.specs.declared.version.Version.{Version}
 
--- the live credentials, in order, as version 4 has them
+-- the live credentials, in file order, as version 4 has them
 abbrev pub new_cells : List CredParts → List CredParts
 new_cells cs = map in_version_4 (filter (λ c. not (is_marked c)) cs)
 
--- the cache in version 4: its live credentials, its default principal, and of its header only the time offset, if any
+-- a cache rewritten: in version 4, with its live credentials, its default principal, and of its header only the time offset
 abbrev pub rewrite_of : CacheState → CacheState
 rewrite_of k = record {
   version = V4;
@@ -30,7 +30,7 @@ rewrite_of k = record {
   contents = record { cells = new_cells k.contents.cells; end = [] };
 }
 
--- what a rewrite gives: it is refused for a damaged cache, and then if the image would be longer than the limit
+-- the result of rewriting a cache: refused if the cache is damaged, and then if the image would be longer than the limit
 abbrev pub rewrite_result : CacheState → Result CacheState Code
 rewrite_result k =
     if is_some (fault_of (store_of k)) then Err Damaged
@@ -38,7 +38,7 @@ rewrite_result k =
 
 -- ---- a cache as a store that can be walked while it changes
 
--- the store of a cache, and what an addition, a removal and a rewrite give
+-- a cache as a store, and the results of an addition, a removal and a rewrite
 abbrev pub cache_rules : Rules CacheState CredParts
 cache_rules = record { seen = store_of; put = put_result; cut = cut_result; rewrite = rewrite_result; takes_none = takes_none }
 

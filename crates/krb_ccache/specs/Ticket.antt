@@ -7,17 +7,17 @@ use Rattle.krb_ccache.specs.declared.ticket.TicketEncryption.{TicketEncryption}
 use Rattle.krb_ccache.specs.declared.ticket.TicketServer.{TicketServer}
 use Rattle.krb_ccache.specs.Der.{element_at, element_in, integer_at, strings_in}
 
--- an Int32, as an enctype and a name type are
+-- a number as an Int32, as enctypes and name types are
 abbrev pub int32_of : ℤ → Option ℤ
 int32_of (pos n) = if nat_lt n (2 ^ 31) then Some (pos n) else None
 int32_of (negsuc n) = if nat_lt n (2 ^ 31) then Some (negsuc n) else None
 
--- a kvno: a UInt32; read-only domain controllers of Windows write one from 2 ^ 31 on as that number less 2 ^ 32
+-- a number as a kvno, a UInt32; read-only domain controllers of Windows write one from 2 ^ 31 on as a number below 0
 abbrev pub kvno_of : ℤ → Option ℕ
 kvno_of (pos n) = if nat_lt n (2 ^ 32) then Some n else None
 kvno_of (negsuc n) = if nat_lt n (2 ^ 31) then Some (2 ^ 32 - suc n) else None
 
--- the kvno, [1], that the bytes begin with, or none if they begin with another element
+-- the kvno, [1], that bytes of EncryptedData go on with, which may be missing, and the bytes after it
 unfoldable pub kvno_at : List ℕ → Option (Option ℕ × List ℕ)
 kvno_at bytes =
     if slice_index bytes 0 == 0xa1 then (do
@@ -59,7 +59,7 @@ ticket_encryption bytes = do
   ticket ← ticket_in bytes
   Some ticket.2
 
--- the server with that realm and sname: one string, and the fields name-type [0], which a cache keeps in 32 bits, and name-string [1]
+-- the server in a ticket's realm and sname: name-type [0], which a cache keeps in 32 bits, and name-string [1]
 unfoldable pub server_in : List ℕ → List ℕ → Option Parts
 server_in realm sname = do
   realm ← element_in 0x1b realm
@@ -71,7 +71,7 @@ server_in realm sname = do
   components ← strings_in strings
   Some (record { name_type = cast_unsigned w32 name_type; realm = realm; components = components })
 
--- the server that a ticket names itself
+-- the server that a ticket itself names
 unfoldable pub ticket_server : List ℕ → Option Parts
 ticket_server bytes = do
   ticket ← ticket_in bytes

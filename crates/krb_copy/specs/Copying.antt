@@ -13,28 +13,28 @@ use Rattle.krb_names.specs.Twins.{are_twins, are_same}
 
 -- ---- what is asked for
 
--- an entry under a new name, if there is one, which has the type of its own
+-- an entry under a new name, if one is given; its name type stays
 abbrev pub renamed : Option Parts → EntryParts → EntryParts
 renamed None x = x
 renamed (Some name) x = record x { principal = record name { name_type = x.principal.name_type } }
 
--- entries at their places, each under that name
+-- entries with their places, each under the new name, if one is given
 abbrev pub asked_as : Option Parts → List PlacedEntry → List PlacedEntry
 asked_as name xs = map (λ x. (x.0, renamed name x.1)) xs
 
 -- ---- what becomes of an entry
 
--- an entry that the keytab has during a run: its place, and whether the run added it
+-- an entry that TO has during a run of ktcopy: its place, the entry, and whether the run added it
 pub record Held : Type 0 where
   pub place : ℕ
   pub entry : EntryParts
   pub is_copied : Bool
 
--- an entry that the keytab had before the run
+-- an entry that TO had before the run of ktcopy
 abbrev pub as_found : PlacedEntry → Held
 as_found x = record { place = x.0; entry = x.1; is_copied = false }
 
--- an entry that the run added
+-- an entry that the run of ktcopy added at a place
 abbrev pub as_copied : ℕ → EntryParts → Held
 as_copied place x = record { place = place; entry = x; is_copied = true }
 
@@ -42,30 +42,30 @@ as_copied place x = record { place = place; entry = x; is_copied = true }
 abbrev pub twins : EntryParts → List Held → List Held
 twins x held = filter (λ h. are_twins x h.entry) held
 
--- it stays: the run added it, or it has name, version, enctype and key of an entry asked for before
+-- an entry of TO stays: the run added it, or an entry asked for before has the same name, kvno, enctype and key
 abbrev pub is_kept : List EntryParts → Held → Bool
 is_kept before h = h.is_copied || list_any (λ a. are_same a h.entry) before
 
--- an entry asked for is there; or clashes, first with the one at this place; or is copied once those at these places are removed
+-- what ktcopy does with an entry: it is `There`; it makes a `Clash` with the entry of TO at a place; or `Copy` adds it, once the entries of TO at these places are removed
 pub data Step : Type 0 where
   There : Step
   Clash : ℕ → Step
   Copy : List ℕ → Step
 
--- the step of an entry whose key none of its twins has: without twins it is copied, and they are replaced if none of them stays
+-- what ktcopy does with an entry whose key is not in TO, by its twins there (entries of the same name, kvno and enctype): without twins it is copied; with `--replace` the twins go, unless one of them stays; else it clashes
 abbrev pub step_among : Bool → List EntryParts → List Held → Step
 step_among replace before [] = Copy []
 step_among replace before (t ∷ ts) =
     if replace && not (list_any (is_kept before) (t ∷ ts)) then Copy (map (λ h. h.place) (t ∷ ts)) else Clash t.place
 
--- the step of an entry, with what was asked for before it and what the keytab has by then: a twin with its key is the entry itself
+-- what ktcopy does with an entry, by what was asked for before and what TO has: if a twin has the same key, the entry is there
 abbrev pub step_of : Bool → List EntryParts → List Held → EntryParts → Step
 step_of replace before held x =
     if list_any (λ h. bytes_eq x.key h.entry.key) (twins x held) then There else step_among replace before (twins x held)
 
 -- ---- a run
 
--- where a run is: the keytab, the entries that it has, those asked for so far, the lines, those of the clashes alone, and the places of the copies, in order
+-- a run of ktcopy so far: the keytab of TO, its entries, those asked for, the lines of all, the lines of clashes, and the places of the copies
 pub record Run : Type 0 where
   pub keytab : KeytabState
   pub held : List Held
@@ -74,19 +74,19 @@ pub record Run : Type 0 where
   pub clashes : List ℕ
   pub places : List ℕ
 
--- the line of an entry that clashes, with the place of its first twin
+-- the line of an entry that clashes, with its place and that of its first twin in TO
 abbrev pub clash_line : PlacedEntry → ℕ → List ℕ
 clash_line x twin = codes "clash " ++ (decimal x.0 ++ placed_line (codes " ") (twin, x.1))
 
--- the lines of an entry that is copied to a place: first its twins that are removed, which have its version, enctype and name
+-- the lines of an entry that is copied to a place: one for each twin that is removed, and one for the copy
 abbrev pub copied_lines : EntryParts → List ℕ → ℕ → List ℕ
 copied_lines x removed place = flat_map (λ p. removed_line (p, x)) removed ++ placed_line (codes "copied ") (place, x)
 
--- the entry takes the place of its twins
+-- the entries of TO with a copy at a place, and without its twins
 abbrev pub with_copy : List Held → EntryParts → ℕ → List Held
 with_copy held x place = filter (λ h. not (are_twins x h.entry)) held ++ as_copied place x ∷ []
 
--- the run after an entry was added, its place known; or why it was not
+-- the run after a copy was added at the place that was found, or why it was not added
 abbrev pub run_added : Run → EntryParts → List ℕ → Result (ℕ × KeytabState) Code → Result Run Code
 run_added run x removed (Err code) = Err code
 run_added run x removed (Ok given) = Ok (record {
@@ -104,12 +104,12 @@ run_after run x There = Ok (record run { before = run.before ++ x.1 ∷ [] })
 run_after run x (Clash twin) = Ok (record run { before = run.before ++ x.1 ∷ []; text = run.text ++ clash_line x twin; clashes = run.clashes ++ clash_line x twin })
 run_after run x (Copy places) = run_added run x.1 places (put_result (without run.keytab places) x.1)
 
--- there are lines
+-- a text has lines
 abbrev pub has_lines : List ℕ → Bool
 has_lines [] = false
 has_lines (b ∷ others) = true
 
--- the run goes on; or ends where an addition is refused, which is its refusal unless an entry clashed before
+-- the run goes on with the other entries, or ends where an addition is refused: with the refusal, unless an entry clashed before
 abbrev pub go_on : (Run → Result Run Code) → Run → Result Run Code → Result Run Code
 go_on others run (Ok next) = others next
 go_on others run (Err code) = if has_lines run.clashes then Ok run else Err code

@@ -4,7 +4,7 @@ use Rattle.std.specs.List.{find, list_all, list_any, starts_with}
 use Rattle.krb_driver.specs.declared.beginning.Beginning.{Beginning}
 use Rattle.krb_driver.specs.declared.beginning.Beginning.TheVariants.{Keytab, Cache, Gzip, Pem, JavaKeystore, Kirbi, Der, Zip, Base64Keytab, Base64Cache, Text, Unknown}
 
--- the kinds of files that are known by their first bytes
+-- the first bytes of the kinds of files that messages name
 unfoldable pub beginnings : List (List (List ℕ) × Beginning)
 beginnings =
     ((5 ∷ 1 ∷ []) ∷ (5 ∷ 2 ∷ []) ∷ [], Keytab)
@@ -19,24 +19,25 @@ beginnings =
     ∷ (codes "BQQ" ∷ codes "BQM" ∷ [], Base64Cache)
     ∷ []
 
--- a byte that text has: one that prints, a tab or the end of a line
+-- a byte is one of a text: it prints, or is a tab or the end of a line
 abbrev pub is_text_byte : ℕ → Bool
 is_text_byte b = (nat_le 0x20 b && nat_le b 0x7e) || ((b == 9) || ((b == 10) || (b == 13)))
 
--- the first 64 bytes are text, or all if it has fewer, and there is one
+-- the first 64 bytes of an image, or all if there are fewer, are those of a text
 abbrev pub is_text : List ℕ → Bool
 is_text image =
     if nat_le 64 (length image) then list_all is_text_byte (take 64 image)
     else (not (length image == 0) && list_all is_text_byte image)
 
--- the kind whose first bytes an image has
+-- the kind of a file that an image's first bytes show, if they are known
 abbrev pub known : List ℕ → Option Beginning
 known image = option_map (λ row. row.1) (find (λ row. list_any (starts_with nat_eq image) row.0) beginnings)
 
--- what an image begins as
+-- what an image begins as: a kind of file that is known, a text, or neither
 abbrev pub begins_as : List ℕ → Beginning
 begins_as image = unwrap_or (known image) (if is_text image then Text else Unknown)
 
+-- an image begins as a keytab
 abbrev pub is_keytab : Beginning → Bool
 is_keytab Keytab = true
 is_keytab begins = false

@@ -5,23 +5,23 @@ use Rattle.krb_files.specs.Plan.{with_bytes}
 use Rattle.krb_driver.specs.declared.error.RunError.TheVariants as error
 use Rattle.krb_driver.specs.RunErrors.{SaveFault, RunError, Verdict, Ending, is_unread, save_error}
 
--- what is printed, how the run then ends, and whether printing it takes memory
+-- a page: what is printed, how the run then ends, and whether printing takes memory
 pub record Page : Type 0 where
   pub out : List ℕ
   pub ending : Ending
   pub takes : Bool
 
--- the page of a finished text
+-- the page of a text that is ready, which ends well
 abbrev pub text : List ℕ → Verdict → Page
 text out verdict = record { out = out; ending = Ok verdict; takes = false }
 
--- the effect of a command, with its file: an error, a page to show, or bytes to save and a text to print after that
+-- what a command comes to, with the name of its file: an error, a page to print, or bytes to save and a text to print after the save
 pub data Effect : Type 0 where
   Fails : List ℕ → RunError → Effect
   Displays : List ℕ → Page → Effect
   Saves : List ℕ → List ℕ → List ℕ → Verdict → Effect
 
--- how a run with that effect ends, if no call fails
+-- how a run ends by its effect, if no call fails
 abbrev pub ending_of : Effect → Ending
 ending_of (Fails file why) = Err why
 ending_of (Displays file page) = page.ending
@@ -33,38 +33,39 @@ about (Fails file why) = file
 about (Displays file page) = file
 about (Saves file bytes out verdict) = file
 
--- it saves
+-- an effect saves a file
 abbrev pub is_save : Effect → Bool
 is_save (Saves file bytes out verdict) = true
 is_save effect = false
 
--- bytes are saved and then a text is printed; in a dry run only the text is printed
+-- the effect of saving bytes and then printing a text; in a dry run the text is printed and nothing is saved
 abbrev pub saves_unless : Bool → List ℕ → List ℕ → List ℕ → Verdict → Effect
 saves_unless true file bytes out verdict = Displays file (text out verdict)
 saves_unless false file bytes out verdict = Saves file bytes out verdict
 
--- what is left to show after a save, by its result
+-- what is left to print after a save, by the save's result
 abbrev pub saved_end : List ℕ → List ℕ → Verdict → Result (Unit {0}) SaveFault → Effect
 saved_end file out verdict (Ok done) = Displays file (text out verdict)
 saved_end file out verdict (Err fault) = Fails file (save_error fault)
 
--- what an effect shows if no call fails, and the files after it
+-- what an effect prints if no call fails
 abbrev pub settled : Effect → Effect
 settled (Saves file bytes out verdict) = Displays file (text out verdict)
 settled effect = effect
 
+-- the files after an effect, if no call fails
 abbrev pub files_after : FileMap → Effect → FileMap
 files_after files (Saves file bytes out verdict) = with_bytes files file bytes
 files_after files effect = files
 
--- memory ran out
+-- an effect reports that memory ran out
 abbrev pub IsSpent : Effect → Type 0
 IsSpent effect = (file : List ℕ) × (effect ≡ Fails file error.NoMemory)
 
--- what is due was made, or memory ran out
+-- an effect is the one that is due, or reports that memory ran out
 abbrev pub IsMade : Effect → Effect → Type 0
 IsMade due effect = IsSpent effect ⊎ (effect ≡ due)
 
--- a file was not read, or not written
+-- an effect reports that a file was not read, or not written
 abbrev pub IsFailure : Effect → Type 0
 IsFailure effect = IsTrue (is_unread (ending_of effect)) ⊎ ((file : List ℕ) × (effect ≡ Fails file error.FileNotWritten))

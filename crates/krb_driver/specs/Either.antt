@@ -21,18 +21,18 @@ abbrev pub state_of : {A : Type 0} → Contents A → EitherState
 state_of (contents.Keytab keytab) = OfKeytab keytab.state
 state_of (contents.Cache cache) = OfCache cache.state
 
--- the fault, if it is damaged
+-- the fault of a keytab or a cache, if the file is damaged
 abbrev pub damage_of : EitherState → Option Fault
 damage_of (OfKeytab k) = fault_of (store_of k)
 damage_of (OfCache k) = fault_of (cache_store k)
 
--- an image that begins as a keytab is opened as one, and any other as a cache
+-- the keytab or the cache in an image: one that begins as a keytab is opened as a keytab, and any other as a cache
 abbrev pub contents_of : Order → List ℕ → Result EitherState RunError
 contents_of order image =
     if is_keytab (begins_as image) then result_map OfKeytab (keytab_in order (Ok image))
     else result_map OfCache (result_map_err NeitherToShow (result_map_err (not_cache image) (cache_result most_bytes image)))
 
--- the keytab or the cache in a file, or the error: the file is missing or was not read, or it is neither
+-- the keytab or the cache that a load gives, or the error
 abbrev pub contents_in : Order → Answer → Result EitherState RunError
 contents_in order (Ok image) = contents_of order image
 contents_in order (Err fault) = Err (load_error fault)

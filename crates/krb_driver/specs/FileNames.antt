@@ -11,45 +11,47 @@ use Rattle.krb_driver.specs.declared.verdict.FileKind.TheVariants.{Keytab, Cache
 abbrev pub is_no_letter : ℕ → Bool
 is_no_letter b = not ((nat_le 65 b && nat_le b 90) || (nat_le 97 b && nat_le b 122))
 
+-- a byte is a colon
 abbrev pub is_colon : ℕ → Bool
 is_colon b = b == 58
 
--- what comes before a colon is a type: two or more letters
+-- the text before a colon is a type of a file's name: two or more letters
 abbrev pub is_type : List ℕ → Bool
 is_type head = nat_lt 1 (length head) && not (list_any is_no_letter head)
 
--- the bytes up to a colon there, if those before it are a type
+-- the part of a word up to a colon at a place, if the text before is a type
 abbrev pub type_before : List ℕ → ℕ → Option (List ℕ)
 type_before word at = if is_type (take at word) then Some (take (at + 1) word) else None
 
--- the type that a word begins with, with its colon
+-- the type that a word begins with, with its colon, as `FILE:`
 abbrev pub type_of : List ℕ → Option (List ℕ)
 type_of word = option_and_then (type_before word) (position_from is_colon 0 word)
 
+-- a word begins with a type
 abbrev pub has_type : List ℕ → Bool
 has_type word = is_some (type_of word)
 
--- a word without a prefix, if it begins with that
+-- a word without a prefix, if it has the prefix
 abbrev pub stripped : List ℕ → List ℕ → Option (List ℕ)
 stripped [] word = Some word
 stripped (p ∷ ps) [] = None
 stripped (p ∷ ps) (b ∷ bs) = if b == p then stripped ps bs else None
 
--- a word without the type that files of that kind alone have: one cache of a collection is a file too
+-- a word without the type that only keytabs, or only caches, have: `WRFILE:`, or `DIR::` for one cache of a collection
 abbrev pub without_own : FileKind → List ℕ → Option (List ℕ)
 without_own Keytab word = stripped (codes "WRFILE:") word
 without_own Cache word = stripped (codes "DIR::") word
 without_own Either word = option_or (stripped (codes "WRFILE:") word) (stripped (codes "DIR::") word)
 
--- a word without the type of files that are read, if it begins with that
+-- a word without the type of a file that is read, if it has one
 abbrev pub untyped : FileKind → List ℕ → Option (List ℕ)
 untyped kind word = option_or (stripped (codes "FILE:") word) (without_own kind word)
 
--- the name of the file that a word names; or, of a type that is not read, the word
+-- the name of the file that a word names
 abbrev pub bare_name : FileKind → List ℕ → List ℕ
 bare_name kind word = unwrap_or (untyped kind word) word
 
--- a word begins with a type that is not read
+-- a word begins with a type that is not read, as `KCM:`
 abbrev pub is_other_type : FileKind → List ℕ → Bool
 is_other_type kind word = is_none (untyped kind word) && has_type word
 
@@ -60,10 +62,10 @@ pub record IsNamed (kind : FileKind) (word : List ℕ) (source : NameSource) (fi
   pub other : file.is_other_type ≡ is_other_type kind word
   pub from : file.source ≡ source
 
--- a byte of a file's name as messages show it: a newline is `\x0a`
+-- a byte of a file's name as messages print it: a newline is `\x0a`
 abbrev pub name_byte : ℕ → List ℕ
 name_byte b = if b == 10 then codes "\\x0a" else b ∷ []
 
--- a file's name as messages, words and the fronts of lines show it, so that it makes no line of its own
+-- a file's name as messages and the beginnings of lines have it, on one line
 abbrev pub shown_name : List ℕ → List ℕ
 shown_name name = flat_map name_byte name

@@ -23,59 +23,61 @@ use Rattle.krb_files.specs.Bytes.{Source, ConsumesAtMost, is_read_fault}
 
 -- ---- what a load gives
 
--- a result with its value mapped
+-- a result, with `view` of its value
 abbrev pub result_map : {X Y E : Type 0} → (X → Y) → Result X E → Result Y E
 result_map view (Ok x) = Ok (view x)
 result_map view (Err e) = Err e
 
--- a result with its error mapped
+-- a result, with `why` of its error
 abbrev pub result_map_err : {X E D : Type 0} → (E → D) → Result X E → Result X D
 result_map_err why (Ok x) = Ok x
 result_map_err why (Err e) = Err (why e)
 
--- why an image is not a keytab
+-- why an image is not a keytab, with what it begins as
 abbrev pub not_keytab : List ℕ → KtOpenFault → NoKeytab
 not_keytab image fault = Open (record { fault = fault; begins = begins_as image })
 
--- why an image is not a cache
+-- why an image is not a cache, with what it begins as
 abbrev pub not_cache : List ℕ → CcOpenFault → NotCache
 not_cache image fault = record { fault = fault; begins = begins_as image }
 
--- the keytab that a load gives, or why there is none
+-- the keytab that a load gives, or why there is none: the load's fault, or that the image is no keytab
 abbrev pub keytab_of : Order → Result (List ℕ) LoadFault → Result KeytabState NoKeytab
 keytab_of order (Ok image) = result_map_err (not_keytab image) (open_result order most_bytes image)
 keytab_of order (Err fault) = Err (Load fault)
 
--- what takes the place of a missing file: an empty keytab of version 2, unless the file is to be saved in place
+-- the keytab for a missing file that is to be written: an empty one of version 2, unless the file is to be saved in place
 abbrev pub new_unless : Bool → Result KeytabState NoKeytab
 new_unless true = Err (Load load.Missing)
 new_unless false = Ok (empty V2 most_bytes)
 
--- the keytab of a file, or what takes the place of a missing one
+-- the keytab that a load gives, or an empty one for a missing file that is not to be saved in place
 abbrev pub keytab_or_new : Order → Bool → Result (List ℕ) LoadFault → Result KeytabState NoKeytab
 keytab_or_new order in_place (Err load.Missing) = new_unless in_place
 keytab_or_new order in_place answer = keytab_of order answer
 
--- the same, and a file of no bytes gives an empty keytab of version 2
+-- the keytab that a load gives, or an empty one for a file of no bytes, or a missing one that is not to be saved in place
 abbrev pub keytab_or_fresh : Order → Bool → Result (List ℕ) LoadFault → Result KeytabState NoKeytab
 keytab_or_fresh order in_place (Ok []) = Ok (empty V2 most_bytes)
 keytab_or_fresh order in_place answer = keytab_or_new order in_place answer
 
--- the cache that a load gives, whose tickets are to be matched or not, or why there is none
+-- the cache that a load gives, to match its tickets or not, or the error
 abbrev pub cache_in : Bool → Result (List ℕ) LoadFault → Result CacheState RunError
 cache_in matched (Ok image) = result_map_err (λ fault. if matched then NotACacheToMatch (not_cache image fault) else NotACache (not_cache image fault)) (cache_result most_bytes image)
 cache_in matched (Err fault) = Err (load_error fault)
 
+-- the cache that a load gives, or the error
 abbrev pub cache_of : Result (List ℕ) LoadFault → Result CacheState RunError
 cache_of = cache_in false
 
+-- the cache whose tickets are matched that a load gives, or the error
 abbrev pub matched_in : Result (List ℕ) LoadFault → Result CacheState RunError
 matched_in = cache_in true
 
 -- ---- what files answer
 
 module _ {F : Type 0} (trait : Ghosts F) (old : F) (name : List ℕ) where
-  -- a file was loaded, and `given` is what is due for the result of the load
+  -- the file of a name was loaded from the files `old`, which left `new`, and `given` is what is due for the result of the load
   pub record Gives {X E : Type 0} (due : Result (List ℕ) LoadFault → Result X E) (given : Result X E) (new : F) : Type 0 where
     pub answer : Result (List ℕ) LoadFault
     pub loads : LoadsFile trait old name answer new
@@ -89,25 +91,27 @@ module _ {F : Type 0} (trait : Ghosts F) (old : F) (name : List ℕ) where
 
 -- ---- what opened files give
 
--- the keytab in a file, which is to be listed or not, or the error: the file is missing or was not read, or it is no keytab
+-- the keytab that a load gives, to list it or not, or the error
 abbrev pub keytab_for : Bool → Order → Answer → Result KeytabState RunError
 keytab_for listed order answer = result_map_err (list_error listed) (keytab_of order answer)
 
+-- the keytab that a load gives, or the error
 abbrev pub keytab_in : Order → Answer → Result KeytabState RunError
 keytab_in = keytab_for false
 
+-- the keytab that a load gives, to list it, or the error
 abbrev pub listed_in : Order → Answer → Result KeytabState RunError
 listed_in = keytab_for true
 
--- the keytab in a file, where a missing one that is not to be saved in place gives an empty keytab
+-- the keytab that a load gives, or an empty one for a missing file that is not to be saved in place, or the error
 abbrev pub keytab_or_empty : Order → Bool → Answer → Result KeytabState RunError
 keytab_or_empty order in_place answer = result_map_err no_keytab_error (keytab_or_new order in_place answer)
 
--- the keytab in a file, where one of no bytes gives an empty keytab, and so does a missing one that is not to be saved in place
+-- the keytab that a load gives, or an empty one for a file of no bytes, or a missing one that is not to be saved in place, or the error
 abbrev pub fresh_in : Order → Bool → Answer → Result KeytabState RunError
 fresh_in order in_place answer = result_map_err no_keytab_error (keytab_or_fresh order in_place answer)
 
--- what was opened, or its refusal if there is one
+-- what was opened, or the error of the refusal, if there is one
 abbrev pub or_refused : {K E : Type 0} → (Code → E) → K → Option Code → Result K E
 or_refused why k None = Ok k
 or_refused why k (Some code) = Err (why code)
@@ -121,25 +125,25 @@ unless_refused why refusal (Err e) = Err e
 abbrev pub keytab_refusal : KeytabState → Option Code
 keytab_refusal k = if is_some (fault_of (store_of k)) then Some Damaged else None
 
--- why a cache refuses to be changed: version 3 is read-only, or it is damaged
+-- why a cache refuses to be changed: version 3 is read-only, or the cache is damaged
 abbrev pub cache_refusal : CacheState → Option Code
 cache_refusal k = if is_read_only k.version then Some ReadOnly else (if is_some (fault_of (cache_store k)) then Some Damaged else None)
 
--- the keytab of a file to change, which is not damaged
+-- the keytab that a load gives, to change it: it must not be damaged
 unfoldable pub whole_in : Order → Answer → Result KeytabState RunError
 whole_in order answer = unless_refused (Refused Keytab) keytab_refusal (keytab_in order answer)
 
--- the keytab of a file to change, which is not damaged, where one of no bytes or a missing one gives an empty keytab as above
+-- the keytab that a load gives, to change it, where a file of no bytes, or a missing one that is not to be saved in place, gives an empty one; it must not be damaged
 unfoldable pub whole_or_empty : Order → Bool → Answer → Result KeytabState RunError
 whole_or_empty order in_place answer = unless_refused (Refused Keytab) keytab_refusal (fresh_in order in_place answer)
 
--- the cache of a file to change, which is not of version 3 and not damaged
+-- the cache that a load gives, to change it: it must be of version 4, and not damaged
 unfoldable pub writable_in : Answer → Result CacheState RunError
 writable_in answer = unless_refused (Refused Cache) cache_refusal (cache_of answer)
 
 -- ---- what the standard input gives
 
--- a reader gave all that it had left; or it had more left than `most` bytes, or it failed, or memory ran out
+-- `input` is all that a reader had left, or why there is none: more than `most` bytes, a failure of the reader, or no memory
 pub record GivesInput (most : ℕ) (reader reader' : Source) (input : Result (List ℕ) LoadFault) : Type 0 where
   pub all : IfOk input (λ bytes. IfSome reader.left (λ left. bytes ≡ left))
   pub within : IfOk input (λ bytes. length bytes ≤ most)

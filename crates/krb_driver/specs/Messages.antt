@@ -13,7 +13,7 @@ use Rattle.krb_driver.specs.declared.reporting.writing.Form.TheVariants as form
 use Rattle.krb_driver.specs.declared.reporting.piece.MessagePiece.{MessagePiece}
 use Rattle.krb_driver.specs.declared.reporting.piece.MessagePiece.TheVariants.{Text, Name, Operand, Number, Word, Quoted, Escaped}
 
--- a message
+-- a message of the program
 abbrev pub message : List ℕ → List ℕ
 message what = codes "krbfile: " ++ (what ++ codes "\n")
 
@@ -29,7 +29,7 @@ numbered before number after = before ++ (decimal number ++ after)
 abbrev pub said_text : Said → List ℕ
 said_text said = said.before.now ++ (option_map_or decimal said.number [] ++ said.after.now)
 
--- a message about a line of the input, with a number at its end
+-- a message about a line of the input, with the number of a fault at its end
 abbrev pub line_message : ℕ → List ℕ → ℕ → List ℕ
 line_message line what number = codes "krbfile: line " ++ (decimal line ++ (codes ": " ++ (what ++ (decimal number ++ codes "\n"))))
 
@@ -37,12 +37,12 @@ line_message line what number = codes "krbfile: line " ++ (decimal line ++ (code
 abbrev pub numbered_line : List ℕ → ℕ → List ℕ → List ℕ
 numbered_line head number phrase = head ++ (decimal number ++ (codes ": " ++ (phrase ++ codes "\n")))
 
--- words that explain a message, after the line number if it is about a line of ktutil
+-- words of --explain as a line, with the number of ktutil's line if there is one
 abbrev pub words_line : Option ℕ → List ℕ → List ℕ
 words_line None words = codes "krbfile: " ++ words
 words_line (Some line) words = codes "krbfile: line " ++ (decimal line ++ (codes ": " ++ words))
 
--- words that are one phrase
+-- a phrase of --explain as a line
 abbrev pub phrase_line : Option ℕ → List ℕ → List ℕ
 phrase_line line phrase = words_line line (phrase ++ codes "\n")
 

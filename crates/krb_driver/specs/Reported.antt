@@ -10,26 +10,26 @@ use Rattle.krb_driver.specs.declared.verdict.FileKind.{FileKind}
 use Rattle.krb_driver.specs.declared.verdict.Verdict.{Verdict}
 use Rattle.krb_driver.specs.declared.verdict.Verdict.TheVariants.{Well, Replied}
 
--- the failure that a reply reports, if it is a refusal or a fault
+-- the failure that a reply reports: a refusal, or a fault that a walk came to
 abbrev pub failure_of : ReplyContent → Option Failure
 failure_of (Refused code) = Some (failure.Refused code)
 failure_of (Faulted walk fault) = Some (failure.Faulted fault.kind)
 failure_of other = None
 
--- the place of a failure among all: refusals and then faults, in the order of their numbers
+-- the place of a failure in the list of all: refusals first, then faults, by their numbers
 abbrev pub place_of : Failure → ℕ
 place_of (failure.Refused code) = code_number code - 1
 place_of (failure.Faulted kind) = 10 + fault_number kind
 
--- what is reported, with one more reply
+-- the failures that were reported, with that of one reply more
 abbrev pub with_reply : List (Option Failure) → ReplyContent → List (Option Failure)
 with_reply failures reply = option_map_or (λ f. slice_set failures (place_of f) (Some f)) (failure_of reply) failures
 
--- what replies report: each failure at its place, once
+-- the failures that replies report, each at its place
 abbrev pub failures : List ReplyContent → List (Option Failure)
 failures replies = fold with_reply (replicate 15 None) replies
 
--- the verdict of a run that printed these replies about a file of that kind
+-- the verdict of a run that printed replies: whether one of them reports a failure
 abbrev pub replied_verdict : FileKind → List ReplyContent → Verdict
 replied_verdict kind replies =
     if list_any is_some (failures replies) then Replied (record { kind = kind; failures = failures replies; hidden_from = None }) else Well

@@ -31,27 +31,27 @@ pub use Rattle.krb_driver.specs.declared.error.RunError.{RunError}
 use Rattle.krb_driver.specs.declared.error.RunError.TheVariants as error
 use Rattle.krb_driver.specs.FirstWords.{first_word, line_at, safe_word}
 
--- the verdict of a listing, which reports the fault if there is one
+-- the verdict of a listing: well, or listed with the fault of a damaged file
 abbrev pub listing_verdict : Option Fault → Verdict
 listing_verdict None = Well
 listing_verdict (Some fault) = Listed fault
 
--- the verdict of the same run if it added an entry that MIT's programs do not see, as they see none from a place on
+-- the verdict of a run that added an entry which MIT's programs do not see, since from a place on they see none
 abbrev pub hiding : Option ℕ → Verdict → Verdict
 hiding (Some place) Well = HiddenFrom place
 hiding place (Replied reported) = Replied (record reported { hidden_from = place })
 hiding place verdict = verdict
 
--- what is said of a refusal
+-- what messages say of a refusal: `refused ` and its number
 abbrev pub refused : Code → List ℕ
 refused code = numbered (codes "refused ") (code_number code) []
 
--- the message for a run over that file
+-- the message for a run that ended with a verdict: none, but where nothing was found to remove
 abbrev pub verdict_message : List ℕ → Verdict → List ℕ
 verdict_message file (NothingToRemove kind) = file_message file (refused NotFound)
 verdict_message file verdict = []
 
--- the exit status
+-- the exit status by the verdict of a run
 abbrev pub verdict_status : Verdict → ℕ
 verdict_status Well = 0
 verdict_status (HiddenFrom place) = 0
@@ -63,18 +63,18 @@ verdict_status verdict = 1
 
 -- ---- where an error that ends a run comes from
 
--- the error for an input that was not read; a reader is never missing
+-- the error for an input that was not read
 abbrev pub input_error : LoadFault → RunError
 input_error load.TooLarge = error.InputTooLarge
 input_error load.NoMemory = error.NoMemory
 input_error other = error.InputNotRead
 
--- the error for a line with an unknown first word, by that word if it is safe to show
+-- the error for a line with an unknown first word, which is shown if it can be no part of a key
 abbrev pub word_error : ℕ → Option FirstWord → RunError
 word_error line None = error.FaultyLine line UnknownWord
 word_error line (Some word) = error.UnknownWord line word
 
--- the error for a fault of a script's line
+-- the error for a line of a script that has a fault
 abbrev pub line_error : List ℕ → ℕ → LineFault → RunError
 line_error script line UnknownWord = word_error line (safe_word (first_word (line_at script line)))
 line_error script line fault = error.FaultyLine line fault
@@ -84,27 +84,28 @@ abbrev pub script_error : List ℕ → ScriptRefusal → RunError
 script_error script (refusal.Fault line kind) = line_error script line kind
 script_error script refusal.NoMemory = error.NoMemory
 
--- the error for a file that was not loaded
+-- the error for a file that was not loaded, by the load's fault
 abbrev pub load_error : LoadFault → RunError
 load_error load.Missing = error.NoSuchFile Word
 load_error load.TooLarge = error.FileTooLarge
 load_error load.Failed = error.FileNotRead
 load_error load.NoMemory = error.NoMemory
 
--- the error for a file that gave no keytab, which is to be listed or not
+-- the error for a file that gave no keytab, to list it or not
 abbrev pub list_error : Bool → NoKeytab → RunError
 list_error listed (Load fault) = load_error fault
 list_error listed (Open why) = if listed then error.NotAKeytabToList why else error.NotAKeytab why
 
+-- the error for a file that gave no keytab
 abbrev pub no_keytab_error : NoKeytab → RunError
 no_keytab_error = list_error false
 
--- the error for a file whose name comes from there
+-- the error with the source of the file's name, if it is that there is no such file
 abbrev pub error_of_name : NameSource → RunError → RunError
 error_of_name source (error.NoSuchFile other) = error.NoSuchFile source
 error_of_name source error = error
 
--- the error for a file that was not saved
+-- the error for a file that was not saved, by the save's fault
 abbrev pub save_error : SaveFault → RunError
 save_error save.Failed = error.FileNotWritten
 save_error save.NoMemory = error.NoMemory
@@ -116,7 +117,7 @@ output_error out.NoMemory = error.NoMemory
 
 -- ---- what is said of it
 
--- what the message for an error says after the name of a file; nothing if it names none
+-- what a message says of an error after the name of the file
 abbrev pub said_of_file : RunError → List ℕ
 said_of_file (error.DamagedInput fault) = refused Damaged
 said_of_file (error.NoSuchFile source) = codes "no such file"
@@ -136,7 +137,7 @@ said_of_file error.NothingToCopy = refused NotFound
 said_of_file (error.NoTicketIn sought) = refused NotFound
 said_of_file other = []
 
--- the message for an error of a run over that file
+-- the message for an error of a run over a file
 abbrev pub error_message : List ℕ → RunError → List ℕ
 error_message file error.InputTooLarge = message (codes "input too large")
 error_message file error.InputNotRead = message (codes "cannot read input")
@@ -154,7 +155,7 @@ error_message file error.ClockNotRead = message (codes "cannot read the clock")
 error_message file error.NoMemory = message (codes "out of memory")
 error_message file other = file_message file (said_of_file other)
 
--- the exit status of a run that it ends
+-- the exit status by the error that ended a run
 abbrev pub error_status : RunError → ℕ
 error_status error.NoMemory = 4
 error_status error.InputNotRead = 3
@@ -168,36 +169,36 @@ error_status other = 1
 
 -- ---- how a run ends
 
--- a run did its work, or an error ends it
+-- the end of a run: a verdict, or the error that ended it
 abbrev pub Ending : Type 0
 Ending = Result Verdict RunError
 
--- memory ran out
+-- a run ended since memory ran out
 abbrev pub is_spent : Ending → Bool
 is_spent (Err error.NoMemory) = true
 is_spent ending = false
 
--- a file was not read
+-- a run ended since a file was not read
 abbrev pub is_unread : Ending → Bool
 is_unread (Err error.FileNotRead) = true
 is_unread ending = false
 
--- the message for the end of a run
+-- the message for the end of a run over a file
 abbrev pub ending_message : List ℕ → Ending → List ℕ
 ending_message file (Ok verdict) = verdict_message file verdict
 ending_message file (Err error) = error_message file error
 
--- the exit status of the run, but for what its save left behind
+-- the exit status by the end of a run alone
 abbrev pub ending_status : Ending → ℕ
 ending_status (Ok verdict) = verdict_status verdict
 ending_status (Err error) = error_status error
 
--- the least exit status of a run whose save left this behind: not 0 if another program wrote beside it
+-- the least exit status by what a save left behind: 1 if another program wrote beside it
 abbrev pub aftermath_status : Option Aftermath → ℕ
 aftermath_status (Some LostChange) = 1
 aftermath_status (Some Mixed) = 1
 aftermath_status other = 0
 
--- the exit status, by the end of the run and what its save left behind
+-- the exit status of a run, by its end and by what its save left behind
 abbrev pub end_status : Ending → Option Aftermath → ℕ
 end_status ending aftermath = max (ending_status ending) (aftermath_status aftermath)

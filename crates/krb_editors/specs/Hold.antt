@@ -30,28 +30,29 @@ use Rattle.krb_editors.specs.declared.hold.words.HoldKind.{HoldKind}
 use Rattle.krb_editors.specs.declared.hold.words.HoldKind.TheVariants.{Keytab, Cache}
 use Rattle.krb_editors.specs.HoldEnds.{HoldEnd, TellsEnd, about_end, ending_of, last_line}
 
--- the most bytes of the frame of an image of 16 MiB: ten digits and a newline before it
+-- the most bytes that hold reads: the frame of an image of 16 MiB, with ten digits and a newline before the image
 abbrev pub most_frame : ℕ
 most_frame = 16777227
 
--- the frame of an image: its length, a newline, and its bytes
+-- the frame of an image, as hold prints and reads it: the image's length in decimal, a newline, and the image
 abbrev pub frame : List ℕ → List ℕ
 frame image = decimal (length image) ++ (codes "\n" ++ image)
 
--- what comes before an image of that length, if it is the length and a newline
+-- the length of a frame's head, up to a newline at `end`, if its number is the number of bytes after it
 abbrev pub head_if : ℕ → ℕ → Option ℕ → Option ℕ
 head_if end len None = None
 head_if end len (Some n) = if len == n then Some (end + 1) else None
 
+-- the length of a frame's head in a text, if the text has a newline at `end` and the number before it is the number of bytes after it
 abbrev pub head_of : List ℕ → Option ℕ → Option ℕ
 head_of text None = None
 head_of text (Some end) = head_if end (length text - (end + 1)) (number_in 32 (take end text))
 
--- the length of what comes before the image, if the text is just one frame: one to ten digits and a newline before as many bytes
+-- the length of the head of a frame, if the text is one whole frame and no more
 abbrev pub head_len : List ℕ → Option ℕ
 head_len text = head_of text (position_from (λ b. b == 10) 0 text)
 
--- the image in a text that is just one frame
+-- the image in a text that is one whole frame
 abbrev pub framed : List ℕ → Option (List ℕ)
 framed text = option_map (λ head. drop head text) (head_len text)
 
@@ -63,45 +64,45 @@ hold_of words =
     if words.flag (codes "keytab") then Ok (Keytab (v1_order words))
     else (if words.flag (codes "v1-big") then Err (for_keytabs (codes "--v1-big")) else Ok Cache)
 
--- the kind of file that is held
+-- the kind of file that hold holds
 abbrev pub file_kind : HoldKind → FileKind
 file_kind (Keytab order) = kind.Keytab
 file_kind Cache = kind.Cache
 
 -- ---- images
 
--- the fault of an image of that kind, if it has one; or why it is none
+-- the fault of a keytab or a cache in an image, if it has one; or why the image is none
 abbrev pub fault_in : HoldKind → List ℕ → Result (Option Fault) RunError
 fault_in (Keytab order) image = result_map (λ k. fault_of (store_of k)) (keytab_in order (Ok image))
 fault_in Cache image = result_map (λ k. fault_of (cache_store k)) (result_map_err (λ why. error.NotACacheToHold why) (result_map_err (not_cache image) (cache_result most_bytes image)))
 
--- an image, unless it has a fault
+-- an image, or the error if its keytab or cache has a fault
 abbrev pub unless_fault : (Fault → RunError) → List ℕ → Result (Option Fault) RunError → Result (List ℕ) RunError
 unless_fault why image (Ok None) = Ok image
 unless_fault why image (Ok (Some fault)) = Err (why fault)
 unless_fault why image (Err error) = Err error
 
--- an image of that kind without a fault
+-- an image whose keytab or cache has no fault, or the error
 abbrev pub whole_in : (Fault → RunError) → HoldKind → List ℕ → Result (List ℕ) RunError
 whole_in why kind image = unless_fault why image (fault_in kind image)
 
--- the image of a missing file: a keytab that is not to be saved in place begins as an empty one
+-- the image for a missing file: an empty keytab, if a keytab is held that is not to be saved in place, or else the error
 abbrev pub missing_in : HoldKind → Bool → Result (List ℕ) RunError
 missing_in (Keytab order) false = Ok (5 ∷ 2 ∷ [])
 missing_in kind in_place = Err (load_error Missing)
 
--- the image that a load gives
+-- the image that hold goes on with by the result of a load, or the error
 abbrev pub held_in : HoldKind → Bool → Answer → Result (List ℕ) RunError
 held_in kind in_place (Ok bytes) = whole_in (λ fault. error.Refused (file_kind kind) Damaged) kind bytes
 held_in kind in_place (Err Missing) = missing_in kind in_place
 held_in kind in_place (Err fault) = Err (load_error fault)
 
--- the image in a frame: not too long, of that kind and without a fault
+-- the image in the frame that hold was given: not too long, and a keytab or cache without a fault; or the error
 abbrev pub given_by : HoldKind → Option (List ℕ) → Result (List ℕ) RunError
 given_by kind None = Err error.InputNotWhole
 given_by kind (Some image) = if nat_lt most_bytes (length image) then Err error.InputTooLarge else whole_in error.DamagedInput kind image
 
--- what the input gives: nothing if it is empty
+-- what hold was given by its input: nothing if the input is empty, an image, or the error
 abbrev pub received : HoldKind → Result (List ℕ) LoadFault → Result (Option (List ℕ)) RunError
 received kind (Ok []) = Ok None
 received kind (Ok (b ∷ text)) = result_map (λ image. Some image) (given_by kind (framed (b ∷ text)))
@@ -116,7 +117,7 @@ module _ {F : Type 0} (trait : Ghosts F) where
     pub loads : LoadsFile trait old name answer new
     pub given_is : (given ≡ Err error.NoMemory) ⊎ (given ≡ gives answer)
 
-  -- the file of that name, which is to be held, is held, and can be saved as far as its hold shows; or it cannot
+  -- hold saw that the file is held and can be saved, as far as the hold shows, or `end` is the error; the files went from `old` to `new`
   pub record ChecksHold (file : List ℕ) (old : F) (end : Result (Unit {0}) (List ℕ × RunError)) (new : F) : Type 0 where
     pub answer : Result (Unit {0}) SaveFault
     pub end_is : end ≡ result_map_err (λ fault. (file, save_error fault)) answer
@@ -126,41 +127,43 @@ module _ {F : Type 0} (trait : Ghosts F) where
     pub same : SameFiles (trait.file old) (trait.file new)
     pub failed : answer ≡ Err Failed → CountsFailure (trait.failure_count old) (trait.failure_count new)
 
--- this is what the input gives, which was read to its end
+-- `given` is what hold's input gave, which was read to its end, from `reader` to `reader'`
 pub record Receives (kind : HoldKind) (reader reader' : Source) (given : Result (Option (List ℕ)) RunError) : Type 0 where
   pub input : Result (List ℕ) LoadFault
   pub read : GivesInput most_frame reader reader' input
   pub given_is : given ≡ received kind input
 
 module _ {F : Type 0} (trait : Ghosts F) (file : List ℕ) (loaded : List ℕ) (old new : F) (end : HoldEnd) where
-  -- nothing was saved
+  -- hold saved nothing, and ended as is due
   abbrev pub Leaves : HoldEnd → Type 0
   Leaves due = (new ≡ old) × (end ≡ due)
 
+  -- an image was saved, unless it is the one that was loaded: then the file was left
   abbrev pub SavesIf : Bool → List ℕ → Type 0
   SavesIf true image = Leaves (Ok Left)
   SavesIf false image = (answer : Result (Unit {0}) SaveFault) × (SavesFile trait old file image answer new × (end ≡ result_map (λ done. Saved) (result_map_err (λ fault. (file, save_error fault)) answer)))
 
-  -- an image was saved, unless it is the one that was loaded
+  -- an image was saved, unless it is equal to the one that was loaded
   abbrev pub SavesOther : List ℕ → Type 0
   SavesOther image = SavesIf (bytes_eq image loaded) image
 
-  -- what was given was saved; or nothing was given, or no image
+  -- the image that hold was given was saved; or the file was left, as no image was given
   abbrev pub SavesReceived : Result (Option (List ℕ)) RunError → Type 0
   SavesReceived (Ok None) = Leaves (Ok Left)
   SavesReceived (Ok (Some image)) = SavesOther image
   SavesReceived (Err why) = Leaves (Err (codes "input", why))
 
 module _ {F R W E : Type 0} (trait : Ghosts F) (kind : HoldKind) (file : FileName) (new : World F R W E) (end : HoldEnd) where
-  -- nothing was printed, read or saved
+  -- hold printed, read and saved nothing, and ended with this error
   abbrev pub EndsEarly : World F R W E → List ℕ × RunError → Type 0
   EndsEarly old met = (new ≡ old) × (end ≡ Err met)
 
+  -- once the held image was printed, hold read its input and saved what it was given; or the output failed, and nothing was read
   abbrev pub AfterShown : World F R W E → List ℕ → Ending → Type 0
   AfterShown old loaded (Ok verdict) = (given : Result (Option (List ℕ)) RunError) × (Receives kind old.input new.input given × SavesReceived trait file.name.now loaded old.files new.files end given)
   AfterShown old loaded (Err why) = (new.input ≡ old.input) × Leaves trait file.name.now loaded old.files new.files end (Err (file.name.now, why))
 
-  -- over the held file its image was printed, and then the input was read to its end and what it gave was saved; or the output failed
+  -- hold printed the image of the held file, read its input to the end, and saved what it was given; or the output failed
   pub record Exchanges (old : World F R W E) (loaded : List ℕ) : Type 0 where
     pub held : trait.held old.files ≡ Some file.name.now
     pub shown : Ending
@@ -168,16 +171,17 @@ module _ {F R W E : Type 0} (trait : Ghosts F) (kind : HoldKind) (file : FileNam
     pub after : AfterShown old loaded shown
     pub err : new.err ≡ old.err
 
+  -- hold went on with the held file, or ended, by whether it saw the file held
   abbrev pub AfterCheck : World F R W E → List ℕ → Result (Unit {0}) (List ℕ × RunError) → Type 0
   AfterCheck old loaded (Ok done) = Exchanges old loaded
   AfterCheck old loaded (Err met) = EndsEarly old met
 
-  -- of an image that was loaded the hold was checked before it went out
+  -- hold went on with the image that was loaded, once it saw the file held; or the load's error ended it
   abbrev pub AfterLoad : World F R W E → Result (List ℕ) (List ℕ × RunError) → Type 0
   AfterLoad old (Ok loaded) = (checked : F) × ((met : Result (Unit {0}) (List ℕ × RunError)) × (ChecksHold trait file.name.now old.files met checked × AfterCheck (record old { files = checked }) loaded met))
   AfterLoad old (Err met) = EndsEarly old met
 
-  -- the file was held, and then loaded
+  -- hold held the file, loaded it, and went on with what it gave
   pub record EditsHeld (old : World F R W E) : Type 0 where
     pub held : F
     pub holds : HeldIf trait (can_hold true file) file.name.now old.files held
@@ -186,7 +190,7 @@ module _ {F R W E : Type 0} (trait : Ghosts F) (kind : HoldKind) (file : FileNam
     pub gives : GivesOf trait held file (held_in kind file.in_place) given loaded
     pub after : AfterLoad (record old { files = loaded }) given
 
--- a run of hold, which then released the file, reported how it ended, and said it in a last line
+-- a run of hold took the world from `old` to `new` with this status: it held a file, exchanged images, released the file, reported how it ended, and said that in a last line
 pub record RunsHold {F R W E : Type 0} (trait : Ghosts F) (old new : World F R W E) (status : ℕ) (kind : HoldKind) (file : FileName) : Type 0 where
   pub done : World F R W E
   pub end : HoldEnd

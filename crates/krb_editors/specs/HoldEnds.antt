@@ -18,14 +18,16 @@ use Rattle.krb_driver.specs.Runs.{Writes}
 use Rattle.krb_editors.specs.declared.hold.last_line.Outcome.{Outcome}
 use Rattle.krb_editors.specs.declared.hold.last_line.Outcome.TheVariants.{Saved, Left}
 
--- it saved the file or left it, or an error about the file of that name ended it
+-- how hold ended: it saved the file or left it, or the error and the name of its file
 abbrev pub HoldEnd : Type 0
 HoldEnd = Result Outcome (List ℕ × RunError)
 
+-- how a run ended that held a file, without what it did with the file
 abbrev pub ending_of : HoldEnd → Ending
 ending_of (Ok outcome) = Ok Well
 ending_of (Err met) = Err met.1
 
+-- the file that hold's message is about
 abbrev pub about_end : List ℕ → HoldEnd → List ℕ
 about_end file (Ok outcome) = file
 about_end file (Err met) = met.0
@@ -36,12 +38,12 @@ end_of result = result_map_err (λ met. (met.file.now, met.error)) result
 
 -- ---- the last line
 
--- the name that errno.h has for a cause, or for an unknown one
+-- the name that errno.h has for the cause of a failed call, or EIO if the cause is unknown
 abbrev pub cause_name_or : Option Cause → List ℕ
 cause_name_or (Some cause) = cause_name cause
 cause_name_or None = codes "EIO"
 
--- why a run failed: the number that krbfile.h has for what does not open or is refused, or else a name as in errno.h
+-- why hold failed, for its last line: a number of krbfile.h for an image that does not open or is refused, or else a name of errno.h
 abbrev pub why_failed : RunError → Option Cause → List ℕ
 why_failed (error.NotAKeytab why) cause = decimal (10 + open_fault_number why.fault)
 why_failed (error.NotACacheToHold why) cause = decimal (10 + cache_fault_number why.fault)
@@ -55,7 +57,7 @@ why_failed error.InputNotWhole cause = codes "EBADMSG"
 why_failed error.NoMemory cause = codes "ENOMEM"
 why_failed other cause = cause_name_or cause
 
--- the line for a run that ended so with that status, by the cause of its failed call, which no definition knows, and what its save left
+-- the last line of hold by its exit status, the cause of a failed call, what the save left behind, and how hold ended
 abbrev pub last_line : ℕ → Option Cause → Option Aftermath → HoldEnd → List ℕ
 last_line status cause (Some aftermath.Damaged) end = codes "damaged\n"
 last_line status cause (Some aftermath.Mixed) end = codes "damaged\n"
@@ -64,7 +66,7 @@ last_line status cause left (Ok Saved) = codes "saved\n"
 last_line status cause left (Ok Left) = codes "left\n"
 last_line status cause left (Err met) = codes "failed " ++ (decimal status ++ (codes " " ++ (why_failed met.1 cause ++ codes "\n")))
 
--- the line was written, or a prefix of it if the output failed; nothing was if it had failed before
+-- hold's last line was written, or a prefix of it if the output failed then; nothing was if it had failed before
 pub record TellsEnd (old new : Watch) (line : List ℕ) : Type 0 where
   pub writes : Writes old new line
   pub none : IsTrue old.failed → new ≡ old

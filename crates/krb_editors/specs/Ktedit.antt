@@ -16,22 +16,22 @@ use Rattle.krb_driver.specs.Loading.{keytab_or_empty}
 use Rattle.krb_editors.specs.Sessions as session
 use Rattle.krb_editors.specs.Sessions.{may_change}
 
--- the place from which on MIT's programs see no entry after the script, if it added an entry there or later
+-- the place from which on MIT's programs see no entry after a script, if the script added an entry there or later
 abbrev pub hidden : List (Event EntryParts) → KeytabState → Option ℕ
 hidden events keytab = hides_added (session.left keytab_rules keytab events) (session.added keytab_rules keytab events)
 
--- what events over the keytab of a file save and print: the keytab is saved if they changed it; records are printed in its format, which a rewrite makes version 2
+-- what ktedit saves and prints of a keytab: it is saved if an event changed it, and the lines of replies are printed
 abbrev pub edits : List (Event EntryParts) → List ℕ → KeytabState → Effect
 edits events file keytab = session.session_effect Keytab keytab_rules image_of (reply_texts_by record_tail V2 keytab.format) (hidden events keytab) file keytab events
 
--- events were run over a keytab: every walk is given what is due to it
+-- ktedit's events were run over a keytab, and every walk was given what is due to it
 abbrev pub RunsFairly : List (Event EntryParts) → KeytabState → Type 0
 RunsFairly events keytab = session.RunsFairly keytab_rules keytab events
 
--- the file is held if an event may change it, and opened; the events are run in a session over its keytab
+-- the plan of ktedit: the file is held if an event may change it, and opened; the events are run in a session over its keytab
 abbrev pub ktedit_plan : Order → FileName → List (Event EntryParts) → CommandPlan
 ktedit_plan order file events = holds (list_any may_change events) file (opens file (keytab_or_empty order file.in_place) (λ k. Ends (edits events file.name.now k)))
 
--- the walks of the events are fair over the keytab that the file gave
+-- every walk of ktedit's events was given what is due to it, over the keytab that the file gave
 abbrev pub ktedit_fairly : Order → FileName → List (Event EntryParts) → List Answer → Type 0
 ktedit_fairly order file events = fair_first (keytab_or_empty order file.in_place) (RunsFairly events)

@@ -23,7 +23,7 @@ use Rattle.krb_keytab_text.specs.Script.{script_by}
 use Rattle.krb_driver.specs.declared.error.RunError.TheVariants.{NoMemory}
 use Rattle.krb_driver.specs.Loading.{GivesInput, result_map_err}
 
--- the places of added entries after a reply, between two stores: an addition adds its place, a removal takes its place away, and a rewrite moves each place as it moves the entries
+-- the places of the entries that a session added, after a reply between two stores: an addition adds its place, a removal takes its place away, and a rewrite moves all
 abbrev pub places_after : Store → Store → ReplyContent → List ℕ → List ℕ
 places_after old new (Placed p) places = p ∷ places
 places_after old new (Gone p) places = filter (λ q. not (q == p)) places
@@ -31,11 +31,11 @@ places_after old new (Rewritten end) places = map (carry old new) places
 places_after old new other places = places
 
 module _ {S I : Type 0} (rules : Rules S I) where
-  -- the places past a moment
+  -- the places of added entries after a moment of a session
   abbrev pub followed_past : Moment S I → List ℕ → List ℕ
   followed_past m places = places_after (rules.seen m.before.store) (rules.seen m.after.store) m.reply places
 
-  -- the places past the moments of a history, one after the other
+  -- the places of added entries after the moments of a session
   abbrev pub followed_over : List ℕ → List (Moment S I) → List ℕ
   followed_over places [] = places
   followed_over places (m ∷ ms) = followed_over (followed_past m places) ms
@@ -57,21 +57,21 @@ pub record HaveSame (xs ys : List ℕ) : Type 0 where
 
 -- ---- what a new session does to a store, and what is saved and printed after it
 
--- an event that may change a store
+-- an event may change a store: an addition, a removal or a rewrite
 abbrev pub may_change : {I : Type 0} → Event I → Bool
 may_change (event.Put item) = true
 may_change (event.Cut place) = true
 may_change event.Rewrite = true
 may_change event = false
 
--- a reply that reports a change of the store
+-- a reply reports a change of the store
 abbrev pub is_change : ReplyContent → Bool
 is_change (Placed place) = true
 is_change (Gone place) = true
 is_change (Rewritten end) = true
 is_change other = false
 
--- the effect of replies over a file of that kind: the image is saved if they report a change, and the lines are printed; from `hidden` on MIT's programs see no entry, and miss one that was added
+-- what a session comes to: the image is saved if a reply reports a change, and the lines are printed; the end reports failures, and an added entry that MIT's programs do not see
 abbrev pub replied : FileKind → List ℕ → Option ℕ → List ReplyContent → List ℕ → List ℕ → Effect
 replied kind file hidden reported image lines =
     let verdict = hiding hidden (replied_verdict kind reported) in
@@ -82,23 +82,23 @@ abbrev pub new_session : {S : Type 0} → S → SessionState S
 new_session store = record { store = store; cursors = [] }
 
 module _ {S I : Type 0} (rules : Rules S I) (store : S) (events : List (Event I)) where
-  -- the events, each with its reply, over the store in a new session
+  -- the moments of a new session over a store: each event with its reply
   abbrev pub moments : List (Moment S I)
   moments = history rules (new_session store) events
 
-  -- the store after them
+  -- the store that a new session's events leave
   abbrev pub left : S
   left = (state_after rules (new_session store) events).store
 
-  -- the places of the entries that they added, after them
+  -- the places of the entries that a new session's events added
   abbrev pub added : List ℕ
   added = followed_over rules [] moments
 
-  -- the events were run: every walk is given what is due to it
+  -- events were run in a new session over a store, and every walk was given what is due to it
   abbrev pub RunsFairly : Type 0
   RunsFairly = Ran rules (new_session store) (state_after rules (new_session store) events) events [] (replies moments)
 
--- what a session saves and prints: the store is saved if a reply reports a change, and the lines of the replies are printed
+-- what a session over a file saves and prints: the store is saved if a reply reports a change, and the lines of replies are printed
 abbrev pub session_effect : {S I : Type 0} → FileKind → Rules S I → (S → List ℕ) → (List ReplyContent → List ℕ) → Option ℕ → List ℕ → S → List (Event I) → Effect
 session_effect kind rules image lines hidden file store events =
     let reported = replies (moments rules store events) in
@@ -107,18 +107,18 @@ session_effect kind rules image lines hidden file store events =
 -- ---- a run whose lines come from a script
 
 module _ {L : Type 0} (reads : List ℕ → Result L LineFault) where
-  -- the lines of an input, or why there are none
+  -- the lines that an input has, or the error: of the input, or of the first faulty line
   abbrev pub lines_in : Result (List ℕ) LoadFault → Result (List L) RunError
   lines_in (Ok text) = result_map_err (λ fault. line_error text fault.line fault.kind) (script_by reads text)
   lines_in (Err fault) = Err (input_error fault)
 
-  -- these are the lines that a reader gave, or memory ran out
+  -- `given` is the lines that a reader gave, from `reader` to `reader'`, or the error, or that memory ran out
   pub record GivesLines (reader reader' : Source) (given : Result (List L) RunError) : Type 0 where
     pub input : Result (List ℕ) LoadFault
     pub read : GivesInput most_bytes reader reader' input
     pub given_is : (given ≡ Err NoMemory) ⊎ (given ≡ lines_in input)
 
--- a run whose lines come from a script: the command is run with them
+-- a run of a script took the world from `old` to `new` with this status: its lines were read from the input, and the plan was run with them
 pub record RunsScript {F R W E L : Type 0} (trait : Ghosts F) (old new : World F R W E) (status : ℕ) (plan : List L → CommandPlan) (fairly : List L → List Answer → Type 0) (reads : List ℕ → Result L LineFault) : Type 0 where
   pub input : Source
   pub lines : Result (List L) RunError

@@ -6,12 +6,12 @@ use Rattle.krb_files.specs.declared.output.OutFault.TheVariants.{Write, NoMemory
 use Rattle.krb_files.specs.declared.files.LoadFault.{LoadFault}
 use Rattle.krb_files.specs.declared.files.LoadFault.TheVariants.{Failed}
 
--- what was written to a watched writer, if known, and whether it has failed
+-- what was written to an output so far, if known, and whether it has failed
 pub record Watch : Type 0 where
   pub contents : Option (List ℕ)
   pub failed : Bool
 
--- the writer took exactly a prefix of the text
+-- an output went from `old` to `new` by a prefix of the text
 pub record AppendsPrefix (old new : Option (List ℕ)) (text : List ℕ) : Type 0 where
   pub prefix : List ℕ
   pub rest : List ℕ
@@ -26,22 +26,23 @@ is_write_fault (Err NoMemory) = false
 
 -- ---- what a reader returned, if what is left to read is known
 
--- at most n bytes were read
+-- at most n bytes were read, from `old` to `new`
 pub record ConsumesAtMost (old new : Option (List ℕ)) (n : ℕ) : Type 0 where
   pub taken : List ℕ
   pub consumes : Consumes old new taken
   pub bound : length taken ≤ n
 
--- what a watched reader has left to read, if known, and whether it has failed
+-- what a reader has left to read, if known, and whether it has failed
 pub record Source : Type 0 where
   pub left : Option (List ℕ)
   pub failed : Bool
 
--- the reader failed
+-- a load's fault is that the file or the reader failed
 abbrev pub is_failed : LoadFault → Bool
 is_failed Failed = true
 is_failed fault = false
 
+-- the result of a load is that the file or the reader failed
 abbrev pub is_read_fault : {T : Type 0} → Result T LoadFault → Bool
 is_read_fault (Ok x) = false
 is_read_fault (Err fault) = is_failed fault

@@ -5,25 +5,25 @@ use Rattle.krb_files.specs.declared.files.LoadFault.TheVariants.{Missing, TooLar
 use Rattle.krb_files.specs.declared.node.Node.{Node}
 use Rattle.krb_files.specs.declared.node.Node.TheVariants.{Nothing, PlainFile}
 
--- the bytes of the file of each name, or none if there is no such file
+-- files: the bytes of each name, or none if there is no such file
 abbrev pub FileMap : Type 0
 FileMap = List ℕ → Option (List ℕ)
 
--- both have the same files
+-- two maps of files are equal
 abbrev pub SameFiles : FileMap → FileMap → Type 0
 SameFiles old new = (name : List ℕ) → new name ≡ old name
 
--- what lies under a name whose file has these bytes, or that has none
+-- what is under a name, by the bytes of its file, if there is one
 abbrev pub node_of : Option (List ℕ) → Node
 node_of None = Nothing
 node_of (Some bytes) = PlainFile
 
--- a file was set: its name has these bytes, and every other name has what it had
+-- files went from `old` to `new`: the file of a name has these bytes, and all others are as before
 pub record SetsFile (old : FileMap) (name bytes : List ℕ) (new : FileMap) : Type 0 where
   pub this : new name ≡ Some bytes
   pub others : (other : List ℕ) → other ≢ name → new other ≡ old other
 
--- the count of failures rose, or it can rise no further
+-- the count of failed calls rose, from `old` to `new`, if it could
 abbrev pub CountsFailure : ℕ → ℕ → Type 0
 CountsFailure old new = (old < new) ⊎ (old ≡ 2 ^ 64 - 1)
 
@@ -32,7 +32,7 @@ abbrev pub answer_of : {A : Type 0} → Result (Vec ℕ A) LoadFault → Result 
 answer_of (Ok bytes) = Ok bytes.items
 answer_of (Err fault) = Err fault
 
--- what a load of at most `limit` bytes returns of the file there
+-- what loading a file of at most `limit` bytes gives
 abbrev pub loaded : Option (List ℕ) → ℕ → Result (List ℕ) LoadFault
 loaded None limit = Err Missing
 loaded (Some bytes) limit = if nat_lt limit (length bytes) then Err TooLarge else Ok bytes

@@ -62,7 +62,7 @@ abbrev pub cause_text : Cause → List ℕ
 cause_text (System number) = codes "error " ++ decimal (unsigned_abs number)
 cause_text cause = cause_phrase cause
 
--- the name that errno.h has for it, or for what is closest
+-- the name that errno.h has for the cause of a failed call, or for what is closest
 abbrev pub cause_name : Cause → List ℕ
 cause_name PermissionDenied = codes "EACCES"
 cause_name NoDirectory = codes "ENOENT"
@@ -91,7 +91,7 @@ cause_name OwnerNotKept = codes "EPERM"
 cause_name NoLock = codes "ENOLCK"
 cause_name (System number) = codes "EIO"
 
--- what a save left behind
+-- what a save left behind, in words
 abbrev pub aftermath_phrase : Aftermath → List ℕ
 aftermath_phrase Restored = codes "the old bytes are back"
 aftermath_phrase Damaged = codes "the file may be damaged"

@@ -4,7 +4,7 @@ use Rattle.krb_findings.specs.declared.finding.Finding.{Finding}
 use Rattle.krb_findings.specs.declared.finding.Finding.TheVariants.{Weak, Hidden, Same, Clash, Old, Mode, Size, Aged, Missing, Empty, User, Unread, Name, Kvno, Etype}
 use Rattle.krb_findings.specs.declared.finding_set.FindingSet.{FindingSet}
 
--- what is said of a finding: the word that its line begins with, its phrase, and whether it makes the status 1
+-- what the table has of a finding: the word that its lines begin with, its phrase, and whether it makes the status 1
 pub record Row : Type 0 where
   pub word : List ℕ
   pub phrase : List ℕ
@@ -36,7 +36,7 @@ all_findings = Weak ∷ Hidden ∷ Same ∷ Clash ∷ Old ∷ Mode ∷ Size ∷ 
 abbrev pub findings_about_tickets : List Finding
 findings_about_tickets = User ∷ Unread ∷ Name ∷ Kvno ∷ Etype ∷ []
 
--- those about an entry, in the order of its lines
+-- the findings about an entry, in the order of its lines
 abbrev pub findings_about_entries : List Finding
 findings_about_entries = Weak ∷ Size ∷ Hidden ∷ Same ∷ Clash ∷ Old ∷ Aged ∷ []
 
@@ -60,19 +60,19 @@ bit_of Name = 2 ^ 12
 bit_of Kvno = 2 ^ 13
 bit_of Etype = 2 ^ 14
 
--- no findings
+-- the set of no findings
 abbrev pub none : FindingSet
 none = record { bits = 0 }
 
--- that finding if it holds, and otherwise none
+-- the set of one finding, if it holds
 abbrev pub only_if : Bool → Finding → FindingSet
 only_if holds finding = record { bits = if holds then bit_of finding else 0 }
 
--- the findings of both
+-- the findings of two sets together
 abbrev pub joined : FindingSet → FindingSet → FindingSet
 joined s t = record { bits = bit_or s.bits t.bits }
 
--- the findings of the first that the second has not
+-- the findings of the first set that the second has not
 abbrev pub without : FindingSet → FindingSet → FindingSet
 without s t = record { bits = bit_and s.bits (2 ^ 16 - 1 - t.bits) }
 
@@ -80,11 +80,11 @@ without s t = record { bits = bit_and s.bits (2 ^ 16 - 1 - t.bits) }
 abbrev pub has : FindingSet → Finding → Bool
 has s finding = not (bit_and s.bits (bit_of finding) == 0)
 
--- it has one at all
+-- a set has a finding
 abbrev pub has_some : FindingSet → Bool
 has_some s = not (s.bits == 0)
 
--- a set, and a finding if it holds
+-- a set with one finding more, if it holds
 abbrev pub with_if : Bool → Finding → FindingSet → FindingSet
 with_if holds finding s = joined s (only_if holds finding)
 

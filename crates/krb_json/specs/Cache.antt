@@ -28,7 +28,7 @@ party_members x =
     ∷ text_member (codes "server") (name_text x.1.server)
     ∷ []
 
--- its four times, in seconds, as in the file
+-- the four times of a ticket, in seconds, as in the file
 unfoldable pub time_members : Times → List Member
 time_members t =
     (codes "authtime", number_of t.authtime)
@@ -37,7 +37,7 @@ time_members t =
     ∷ (codes "renew_till", number_of t.renew_till)
     ∷ []
 
--- its flags, as letters and as a number
+-- the flags of a ticket, as letters and as a number
 unfoldable pub flag_members : ℕ → List Member
 flag_members flags = (codes "flags", string (flag_letters_of flags)) ∷ (codes "flags_value", number_of flags) ∷ []
 
@@ -46,17 +46,17 @@ abbrev pub name_of_etype : ℤ → Option (List ℕ)
 name_of_etype (pos n) = if nat_lt n (2 ^ 16) then etype_name_of n else None
 name_of_etype (negsuc n) = None
 
--- an integer, or null if there is none
+-- an integer that may be missing
 abbrev pub integer_or_null : Option ℤ → Json
 integer_or_null None = null
 integer_or_null (Some n) = number (signed_decimal n)
 
--- the server that a ticket names itself, or null if it does not
+-- the server that a ticket itself names, or null
 abbrev pub own_server_member : Option Parts → Member
 own_server_member None = (codes "ticket_server", null)
 own_server_member (Some p) = text_member (codes "ticket_server") (name_text p)
 
--- a ticket's own enctype, its name, the kvno, and its server, each null if the ticket does not have it
+-- what a ticket itself has: its enctype, that one's name, its kvno and its server, each null if it is not there
 unfoldable pub own_members : Option TicketEncryption → Option Parts → List Member
 own_members encryption server =
     (codes "ticket_etype", integer_or_null (option_map (λ e. e.etype) encryption))
@@ -65,7 +65,7 @@ own_members encryption server =
     ∷ own_server_member server
     ∷ []
 
--- whether it is encrypted in another ticket's session key, its number of addresses, the ticket's length, and what it has itself
+-- the rest of a ticket: whether it is under another ticket's session key, how many addresses it has, its length, and what it itself has
 unfoldable pub size_members : CredParts → List Member
 size_members c =
     (codes "is_skey", boolean (not (c.is_skey == 0)))
@@ -78,12 +78,12 @@ unfoldable pub ticket_value : PlacedCredential → Json
 ticket_value x =
     object_of (party_members x ++ (time_members x.1.times ++ (flag_members x.1.flags ++ (etype_members x.1.key.enctype ++ size_members x.1))))
 
--- the principal that a configuration entry is about, or null if there is none
+-- the principal that a configuration entry is about, or null
 abbrev pub about_member : Option (List ℕ) → Member
 about_member None = (codes "principal", null)
 about_member (Some text) = text_member (codes "principal") text
 
--- a configuration entry: its place, key, principal and value
+-- a configuration entry as JSON: its place, key, principal and value
 unfoldable pub config_value : ℕ → ConfigParts → List ℕ → Json
 config_value place name value =
     object_of (
@@ -94,30 +94,30 @@ config_value place name value =
     ∷ []
     )
 
--- a credential as a ticket, or nothing if its server is the name of a configuration entry
+-- a credential as JSON, if it is a ticket
 abbrev pub ticket_by : Option ConfigParts → PlacedCredential → Option Json
 ticket_by None x = Some (ticket_value x)
 ticket_by (Some name) x = None
 
--- a credential as a configuration entry, or nothing if its server is not the name of one
+-- a credential as JSON, if it is a configuration entry
 abbrev pub config_by : Option ConfigParts → PlacedCredential → Option Json
 config_by None x = None
 config_by (Some name) x = Some (config_value x.0 name x.1.ticket)
 
--- a credential as an element of the array, or nothing if the array does not hold it
+-- a credential as JSON in the array of tickets, or in that of configuration entries, if it belongs there
 abbrev pub shown_by : Shown → Option ConfigParts → PlacedCredential → Option Json
 shown_by Tickets name x = ticket_by name x
 shown_by Configs name x = config_by name x
 
--- the elements of the array: those of the live credentials that it holds, in file order
+-- the live credentials in the array of tickets, or in that of configuration entries, in file order
 abbrev pub shown_values : Shown → List PlacedCredential → List Json
 shown_values shown xs = filter_map (λ x. shown_by shown (config_name x.1.server) x) xs
 
--- the live credentials that are not configuration entries
+-- the tickets of a cache as JSON
 abbrev pub ticket_values : List PlacedCredential → List Json
 ticket_values xs = shown_values Tickets xs
 
--- the live credentials that are configuration entries
+-- the configuration entries of a cache as JSON
 abbrev pub config_values : List PlacedCredential → List Json
 config_values xs = shown_values Configs xs
 
@@ -127,13 +127,13 @@ offset_value None = null
 offset_value (Some o) =
     object_of ((codes "seconds", integer_or_null (Some o.seconds)) ∷ (codes "microseconds", integer_or_null (Some o.micros)) ∷ [])
 
--- what comes before the tickets: the name of the file, its kind and version, the default principal, and the offset
+-- what the JSON of a cache has before its tickets: file, kind, version, default principal and clock offset
 unfoldable pub cache_members : List ℕ → CacheState → List Member
 cache_members file k =
     file_members file (codes "ccache") (version_byte k.version)
     ++ (text_member (codes "default_principal") (name_text k.principal) ∷ (codes "offset", offset_value (offset_in k.header)) ∷ [])
 
--- a cache, with the name of its file
+-- a cache as JSON, with the name of its file
 unfoldable pub cache_value : List ℕ → CacheState → Json
 cache_value file k =
     object_of (
@@ -144,6 +144,6 @@ cache_value file k =
     ∷ [])
     )
 
--- its text, and a newline
+-- the line that klist --json prints of a cache
 abbrev pub cache_json_text : List ℕ → CacheState → List ℕ
 cache_json_text file k = json_text (cache_value file k) ++ codes "\n"

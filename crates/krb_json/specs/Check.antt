@@ -14,12 +14,12 @@ use Rattle.krb_findings.specs.Table.{findings_about_entries, has, row_of}
 use Rattle.krb_json.specs.Escaped.{json_text}
 use Rattle.krb_json.specs.Members.{Member, object_of, array_of, number_of, text_member, fault_value, status_members}
 
--- a mode in octal, or null if there is none
+-- a mode in octal as JSON, or null
 abbrev pub mode_value : Option ℕ → Json
 mode_value None = null
 mode_value (Some mode) = string (mode_digits mode)
 
--- what comes before the findings: the name of the file, its mode, and how many entries and holes there are
+-- what the JSON of a check has before the findings: the file, its mode, its entries and holes
 unfoldable pub check_members : List ℕ → Option ℕ → Counts → List Member
 check_members file mode counts =
     (codes "file", string file)
@@ -29,15 +29,15 @@ check_members file mode counts =
     ∷ (codes "holes", number_of counts.holes)
     ∷ []
 
--- a finding: its word, and what else its line has
+-- a finding as JSON: its word, and what its line has more
 abbrev pub finding_value : Finding → List Member → Json
 finding_value finding ms = object_of ((codes "finding", string (row_of finding).word) ∷ ms)
 
--- a finding about the file, if it holds
+-- a finding about the file as JSON, if it holds
 abbrev pub file_findings : Bool → Finding → List Json
 file_findings holds finding = if holds then finding_value finding [] ∷ [] else []
 
--- the place of the first entry that is alike, if a finding is about that
+-- the place of the earlier entry that a finding is about, if there is one
 abbrev pub first_members : Option ℕ → List Member
 first_members None = []
 first_members (Some first) = (codes "first", number_of first) ∷ []
@@ -49,7 +49,7 @@ about_members first x =
     ∷ (first_members first
     ++ ((codes "kvno", number_of x.1.version) ∷ (codes "etype", number_of x.1.enctype) ∷ text_member (codes "principal") (name_text x.1.principal) ∷ []))
 
--- a finding, if it is found about an entry
+-- a finding about an entry as JSON, if it holds
 abbrev pub entry_finding : Marked → Finding → List Json
 entry_finding m finding = if has m.1.findings finding then finding_value finding (about_members (first_for m.1 finding) m.0) ∷ [] else []
 
@@ -57,17 +57,17 @@ entry_finding m finding = if has m.1.findings finding then finding_value finding
 abbrev pub entry_findings : Marked → List Json
 entry_findings m = flat_map (entry_finding m) findings_about_entries
 
--- a name that is missing
+-- a name that is wanted and missing as JSON
 abbrev pub missing_value : List ℕ → Json
 missing_value name = finding_value Missing (text_member (codes "principal") name ∷ [])
 
--- the findings, in the order of their lines
+-- the findings of a check as JSON, in the order of lines
 abbrev pub finding_values : CheckParts → List Json
 finding_values c =
     file_findings (has_mode is_open c.mode) Mode
     ++ (flat_map entry_findings c.entries ++ (file_findings c.is_empty Empty ++ map missing_value c.missing))
 
--- a check of a keytab, with the name of its file and the status that it comes to
+-- a check of a keytab as JSON, with the name of its file and its status
 unfoldable pub check_value : List ℕ → CheckParts → ℕ → Json
 check_value file c status =
     object_of (
@@ -75,15 +75,15 @@ check_value file c status =
     ++ ((codes "findings", array_of (finding_values c)) ∷ (codes "fault", fault_value c.fault) ∷ status_members (Some status))
     )
 
--- its text, and a newline
+-- the line that ktcheck --json prints of a keytab
 abbrev pub check_json_text : List ℕ → CheckParts → ℕ → List ℕ
 check_json_text file c status = json_text (check_value file c status) ++ codes "\n"
 
--- a file that could not be checked: its name, the error, and the status
+-- a file that ktcheck could not check as JSON: its name, the error and the status
 unfoldable pub refused_value : List ℕ → List ℕ → ℕ → Json
 refused_value file error status =
     object_of ((codes "file", string file) ∷ text_member (codes "error") error ∷ (codes "status", number_of status) ∷ [])
 
--- its text, and a newline
+-- the line that ktcheck --json prints of a file that it could not check
 abbrev pub refused_json_text : List ℕ → List ℕ → ℕ → List ℕ
 refused_json_text file error status = json_text (refused_value file error status) ++ codes "\n"

@@ -10,15 +10,15 @@ use Rattle.json.specs.Tree.{json_tokens}
 abbrev pub is_second : ℕ → Bool
 is_second b = nat_le 128 b && nat_le b 159
 
--- two bytes that are one of the characters U+0080 to U+009F: c2, and the character's number
+-- two bytes are a character from U+0080 to U+009F
 abbrev pub is_pair : ℕ → ℕ → Bool
 is_pair a b = (a == 194) && is_second b
 
--- the escape of a character: `\u00`, and its number in two hexadecimal digits
+-- a control character as JSON has it: `\u00`, and its number in two hexadecimal digits
 abbrev pub escape : ℕ → List ℕ
 escape c = codes "\\u00" ++ encode_lower (c ∷ [])
 
--- a byte of any other character: 7f is escaped
+-- a byte of a JSON text: 7f is escaped, any other stays
 abbrev pub single : ℕ → List ℕ
 single b = if b == 127 then escape b else b ∷ []
 

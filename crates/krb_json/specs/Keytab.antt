@@ -9,11 +9,11 @@ use Rattle.krb_keytab.specs.Store.{KeytabState, store_of}
 use Rattle.krb_json.specs.Escaped.{json_text}
 use Rattle.krb_json.specs.Members.{Member, object_of, array_of, number_of, digits_of, text_member, etype_members, fault_value, file_members}
 
--- the key, if keys are shown
+-- the key of an entry as JSON, if keys are shown
 unfoldable pub key_members : Bool → List ℕ → List Member
 key_members shows_keys key = if shows_keys then (codes "key_hex", digits_of key) ∷ [] else []
 
--- an entry's place, principal and kvno
+-- an entry's place, principal and kvno as JSON
 unfoldable pub owner_members : PlacedEntry → List Member
 owner_members x =
     (codes "place", number_of x.0)
@@ -21,7 +21,7 @@ owner_members x =
     ∷ (codes "kvno", number_of x.1.version)
     ∷ []
 
--- an entry
+-- an entry of a keytab as JSON
 unfoldable pub entry_value : Bool → PlacedEntry → Json
 entry_value shows_keys x =
     object_of (
@@ -29,11 +29,11 @@ entry_value shows_keys x =
     ++ (etype_members x.1.enctype ++ ((codes "timestamp", number_of x.1.timestamp) ∷ key_members shows_keys x.1.key))
     )
 
--- the entries, in file order
+-- the entries of a keytab as JSON, in file order
 abbrev pub entry_values : Bool → KeytabState → List Json
 entry_values shows_keys k = map (entry_value shows_keys) (placed_entries k)
 
--- a keytab, with the name of its file
+-- a keytab as JSON, with the name of its file
 unfoldable pub keytab_value : List ℕ → Bool → KeytabState → Json
 keytab_value file shows_keys k =
     object_of (
@@ -41,6 +41,6 @@ keytab_value file shows_keys k =
     ++ ((codes "entries", array_of (entry_values shows_keys k)) ∷ (codes "fault", fault_value (fault_of (store_of k))) ∷ [])
     )
 
--- its text, and a newline
+-- the line that klist --json prints of a keytab
 abbrev pub keytab_json_text : List ℕ → Bool → KeytabState → List ℕ
 keytab_json_text file shows_keys k = json_text (keytab_value file shows_keys k) ++ codes "\n"

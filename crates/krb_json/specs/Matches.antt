@@ -11,7 +11,7 @@ use Rattle.krb_json.specs.Cache.{integer_or_null}
 use Rattle.krb_json.specs.Escaped.{json_text}
 use Rattle.krb_json.specs.Members.{Member, array_of, fault_value, number_of, object_of, status_members, text_member}
 
--- what is found in the keytab: the place of the entry that opens a ticket, or the newest version of its name
+-- what the JSON of a ticket has of the keytab: the place of the entry that opens it, or the newest kvno of its name
 abbrev pub found : Judgement → Option ℤ × Option ℤ
 found (Opens place) = (Some (pos place), None)
 found (Kvno newest) = (None, Some (pos newest))
@@ -22,7 +22,7 @@ abbrev pub etypes_value : Judgement → Json
 etypes_value (Etype etypes) = array_of (map number_of (take 8 etypes))
 etypes_value judgement = null
 
--- the version and the enctype of a ticket, each null if it was not read or is left out
+-- the kvno and the enctype of a ticket as JSON, each null if it is not there
 unfoldable pub ticket_numbers : Option TicketEncryption → List Member
 ticket_numbers encryption =
     (codes "kvno", integer_or_null (option_and_then (λ e. option_map pos e.kvno) encryption))
@@ -46,7 +46,7 @@ match_value t = object_of ((codes "place", number_of t.place) ∷ text_member (c
 unfoldable pub match_members : List ℕ → List ℕ → List Member
 match_members keytab file = (codes "keytab", string keytab) ∷ (codes "file", string file) ∷ []
 
--- what the keytab of that name says of the tickets of a cache, with the name of its file, its fault and the status
+-- what ktmatch says of a cache as JSON, with both files' names, the fault and the status
 unfoldable pub matches_value : List ℕ → List ℕ → List MatchedParts → Option Fault → ℕ → Json
 matches_value keytab file ts fault status =
     object_of (
@@ -54,6 +54,6 @@ matches_value keytab file ts fault status =
     ++ ((codes "tickets", array_of (map match_value ts)) ∷ (codes "fault", fault_value fault) ∷ status_members (Some status))
     )
 
--- its text, and a newline
+-- the line that ktmatch --json prints of a cache
 abbrev pub match_json_text : List ℕ → List ℕ → List MatchedParts → Option Fault → ℕ → List ℕ
 match_json_text keytab file ts fault status = json_text (matches_value keytab file ts fault status) ++ codes "\n"

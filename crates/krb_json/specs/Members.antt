@@ -10,20 +10,20 @@ use Rattle.krb_text.specs.Etype.{etype_name_of}
 use Rattle.krb_json.specs.declared.put.Label.{Label}
 use Rattle.krb_json.specs.declared.put.Label.TheVariants.{Principal, DefaultPrincipal, Client, Server, TicketServer, Key, Value, Error, Name}
 
--- a member of an object: its name and its value
+-- a member of a JSON object: its name and its value
 abbrev pub Member : Type 0
 Member = List ℕ × Json
 
--- a list of members, as an object has them
+-- members as a JSON object has them
 abbrev pub members_of : List Member → Members
 members_of [] = no_members
 members_of (m ∷ ms) = member m.0 m.1 (members_of ms)
 
--- the object that has these members
+-- the JSON object of these members
 abbrev pub object_of : List Member → Json
 object_of ms = object (members_of ms)
 
--- the array that has these values
+-- the JSON array of these values
 abbrev pub array_of : List Json → Json
 array_of vs = array (items_of vs)
 
@@ -35,30 +35,30 @@ number_of n = number (decimal n)
 abbrev pub digits_of : List ℕ → Json
 digits_of bytes = string (encode_lower bytes)
 
--- a text as a string; if it is not UTF-8, it is in hexadecimal, and `_hex` is added to the name
+-- a text as a member: a string if it is UTF-8, and otherwise in hexadecimal, with `_hex` after the member's name
 unfoldable pub text_member : List ℕ → List ℕ → Member
 text_member name text = if is_utf8 text then (name, string text) else (name ++ codes "_hex", digits_of text)
 
--- a string, or null if there is none
+-- a text as a string, or null
 abbrev pub text_or_null : Option (List ℕ) → Json
 text_or_null None = null
 text_or_null (Some text) = string text
 
--- the number of an enctype, and its name, or null if it has none
+-- an enctype as JSON: its number, and its name or null
 unfoldable pub etype_members : ℕ → List Member
 etype_members etype = (codes "etype", number_of etype) ∷ (codes "etype_name", text_or_null (etype_name_of etype)) ∷ []
 
--- the kind and the place of a fault, or null if there is none
+-- the fault of a damaged file as JSON: its kind and its place, or null
 abbrev pub fault_value : Option Fault → Json
 fault_value None = null
 fault_value (Some fault) = object_of ((codes "kind", number_of (fault_number fault.kind)) ∷ (codes "place", number_of fault.place) ∷ [])
 
--- the status that a file comes to, if it is given
+-- the status of a file, if it is given
 abbrev pub status_members : Option ℕ → List Member
 status_members None = []
 status_members (Some status) = (codes "status", number_of status) ∷ []
 
--- the first members of each file: its name, its kind and its format version
+-- the first members of a file's JSON: its name, its kind and its version
 unfoldable pub file_members : List ℕ → List ℕ → ℕ → List Member
 file_members file kind version = (codes "file", string file) ∷ (codes "kind", string kind) ∷ (codes "version", number_of version) ∷ []
 

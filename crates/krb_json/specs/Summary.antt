@@ -7,12 +7,12 @@ use Rattle.krb_json.specs.declared.summary.CacheSummary.{CacheSummary}
 use Rattle.krb_json.specs.Escaped.{json_text}
 use Rattle.krb_json.specs.Members.{object_of, number_of, text_member}
 
--- a number, or null if there is none
+-- a number that may be missing
 abbrev pub number_or_null : Option ℕ → Json
 number_or_null None = null
 number_or_null (Some n) = number_of n
 
--- a cache: the name of its file, its default principal, its number of tickets, the endtime, and whether it is expired
+-- a cache in the JSON of `klist -l`: its file, its default principal, how many tickets it has, when they end, and whether they have
 unfoldable pub summary_value : List ℕ → Parts → CacheSummary → Json
 summary_value file principal summary =
     object_of (
@@ -25,6 +25,6 @@ summary_value file principal summary =
     ∷ []
     )
 
--- its text, and a newline
+-- the line that `klist -l --json` prints of a cache
 abbrev pub summary_text : List ℕ → Parts → CacheSummary → List ℕ
 summary_text file principal summary = json_text (summary_value file principal summary) ++ codes "\n"

@@ -30,7 +30,7 @@ abbrev pub greatest : List PlacedEntry → ℕ
 greatest [] = 0
 greatest (x ∷ xs) = max x.1.version (greatest xs)
 
--- the kvno that is looked up among some entries: the greatest if 0 is given, as in MIT's krb5_kt_get_entry
+-- the kvno that is looked up among some entries: the one that is given, or for 0 the greatest
 abbrev pub selected_version : ℕ → List PlacedEntry → ℕ
 selected_version kvno xs = if kvno == 0 then greatest xs else kvno
 

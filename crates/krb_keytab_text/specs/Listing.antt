@@ -14,15 +14,15 @@ use Rattle.krb_text.specs.Calendar.{time_text_of}
 
 -- ---- lines
 
--- the time and a space, if times are shown
+-- the time column of an entry's line: the time and a space, if times are shown
 abbrev pub time_column : Bool → ℕ → List ℕ
 time_column is_shown seconds = if is_shown then time_text_of seconds ++ 32 ∷ [] else []
 
--- the enctype in parentheses, if enctypes are shown
+-- the enctype column of an entry's line: the enctype in parentheses, if enctypes are shown
 abbrev pub etype_column : Bool → ℕ → List ℕ
 etype_column is_shown etype = if is_shown then codes " (" ++ (etype_text_of etype ++ 41 ∷ []) else []
 
--- the key in parentheses, if keys are shown
+-- the key column of an entry's line: the key in parentheses, if keys are shown
 abbrev pub key_column : Bool → List ℕ → List ℕ
 key_column is_shown key = if is_shown then codes " (" ++ (key_text_of key ++ 41 ∷ []) else []
 
@@ -40,15 +40,15 @@ entry_tail e =
 
 -- ---- listings
 
--- the line of column titles
+-- the line of column titles in the heading of a keytab's listing
 abbrev pub titles : Bool → List ℕ
 titles times = if times then codes "KVNO Timestamp            Principal\n" else codes "KVNO Principal\n"
 
--- the line of dashes below the titles
+-- the line of dashes below the column titles
 abbrev pub underlines : Bool → List ℕ
 underlines times = if times then codes "---- -------------------- ---------\n" else codes "---- ---------\n"
 
--- the heading, before the lines of entries
+-- the heading of a keytab's listing: the file's name, column titles and dashes
 abbrev pub heading : List ℕ → Bool → List ℕ
 heading name times = codes "Keytab name: FILE:" ++ (name ++ (codes "\n" ++ (titles times ++ underlines times)))
 
@@ -56,13 +56,13 @@ heading name times = codes "Keytab name: FILE:" ++ (name ++ (codes "\n" ++ (titl
 abbrev pub entry_lines : KtColumns → KeytabState → List ℕ
 entry_lines columns k = flat_map (entry_line columns) (entries k)
 
--- the listing of a keytab whose file has the name
+-- the listing of a keytab: the heading with the name of the file, the entries' lines, and the fault if there is one
 abbrev pub list_text : KtColumns → List ℕ → KeytabState → List ℕ
 list_text columns name k = heading name columns.times ++ (entry_lines columns k ++ fault_line (fault_of (store_of k)))
 
 -- ---- the listing of ktutil's slots
 
--- the heading, before the slots
+-- the heading of a listing of slots: column titles and dashes
 abbrev pub slot_heading : Bool → List ℕ
 slot_heading times = codes "slot " ++ (titles times ++ (codes "---- " ++ underlines times))
 
@@ -80,7 +80,7 @@ slot_text columns entries = slot_heading columns.times ++ slot_lines columns 1 e
 
 -- ---- lines of entries and their places
 
--- a label, the place of an entry and the rest of its line
+-- the line of an entry with its place: a label, the place, the kvno, the enctype and the principal
 abbrev pub placed_line : List ℕ → PlacedEntry → List ℕ
 placed_line label x = label ++ (decimal x.0 ++ entry_tail x.1)
 

@@ -7,15 +7,15 @@ use Rattle.krb_keytab.specs.Entry.{EntryParts, entry_at}
 use Rattle.krb_keytab_text.specs.Listing.{entry_tail}
 use Rattle.krb_text.specs.FaultLine.{fault_text}
 
--- a line about a walk: its number, and the rest
+-- the line of a reply about a walk: the walk's number, and the rest of the line
 abbrev pub walk_line : ℕ → List ℕ → List ℕ
 walk_line walk rest = codes "walk " ++ (decimal walk ++ rest)
 
--- a label, a number, and the end of the line
+-- a line with a label and a number
 abbrev pub number_line : List ℕ → ℕ → List ℕ
 number_line label n = label ++ (decimal n ++ codes "\n")
 
--- the line of a reply; the line of a record given to a walk ends with the record's tail in the format
+-- the line of a reply; that of a record which a walk is given ends with the record's entry or credential
 abbrev pub reply_text_by : {F : Type 0} → (F → List ℕ → List ℕ) → F → ReplyContent → List ℕ
 reply_text_by tail_of f (Started w next) = walk_line w (number_line (codes " at ") next)
 reply_text_by tail_of f (Gave w place next bytes) =
@@ -27,12 +27,12 @@ reply_text_by tail_of f (Gone place) = number_line (codes "gone ") place
 reply_text_by tail_of f (Rewritten end) = number_line (codes "rewritten ") end
 reply_text_by tail_of f (Refused code) = number_line (codes "refused ") (code_number code)
 
--- the format after a reply: a rewrite makes it `rewritten`
+-- the format of a store after a reply: a rewrite makes it the newest
 abbrev pub format_after_by : {F : Type 0} → F → F → ReplyContent → F
 format_after_by rewritten f (Rewritten end) = rewritten
 format_after_by rewritten f other = f
 
--- the lines of replies in order
+-- the lines of replies, in order
 abbrev pub reply_texts_by : {F : Type 0} → (F → List ℕ → List ℕ) → F → F → List ReplyContent → List ℕ
 reply_texts_by tail_of rewritten f [] = []
 reply_texts_by tail_of rewritten f (reply ∷ replies) =
@@ -40,12 +40,12 @@ reply_texts_by tail_of rewritten f (reply ∷ replies) =
 
 -- ---- of a keytab
 
--- the end of the line of a record that holds the entry; if it held none, the line would end there
+-- the end of the line of a record: its entry
 abbrev pub given_tail : Option EntryParts → List ℕ
 given_tail None = codes "\n"
 given_tail (Some e) = entry_tail e
 
--- the end of the line of a record with the bytes
+-- the end of the line of a record with these bytes in a keytab of a format
 abbrev pub record_tail : KtFormat → List ℕ → List ℕ
 record_tail f bytes = given_tail (entry_at f bytes)
 

@@ -21,7 +21,7 @@ Err fault >>= f = Err fault
 
 -- ---- a line
 
--- the command that a line's first word is, of those that all scripts share
+-- the command that a word names, of those that scripts of keytabs and of caches share
 abbrev pub command_named : List ℕ → Option Command
 command_named word =
     if bytes_eq word (codes "start") then Some command.Start
@@ -31,23 +31,23 @@ command_named word =
     else (if bytes_eq word (codes "rewrite") then Some command.Rewrite
     else None))))
 
--- no words
+-- a command without words after it
 abbrev pub no_words : List (List ℕ) → Result (Unit {0}) LineFault
 no_words [] = Ok tt
 no_words (word ∷ others) = Err WordCount
 
--- one word, which is a number
+-- the number that a command's only word spells
 abbrev pub lone_number : List (List ℕ) → Result ℕ LineFault
 lone_number [] = Err WordCount
 lone_number (word ∷ []) = number_word word
 lone_number (word ∷ other ∷ others) = Err WordCount
 
--- what is made of a value; a fault stays
+-- what is made of a value that was read, or the fault of the line
 abbrev pub made : {T U : Type 0} → (T → U) → Result T LineFault → Result U LineFault
 made make (Ok x) = Ok (make x)
 made make (Err fault) = Err fault
 
--- the event that a command and the words after it are, for any store
+-- the event that a command and its words mean, over any store
 abbrev pub event_by : {I : Type 0} → Command → List (List ℕ) → Result (Event I) LineFault
 event_by command.Start words = made (λ done. event.Start) (no_words words)
 event_by command.Resume words = made event.Resume (lone_number words)
@@ -55,13 +55,13 @@ event_by command.Step words = made event.Step (lone_number words)
 event_by command.Cut words = made event.Cut (lone_number words)
 event_by command.Rewrite words = made (λ done. event.Rewrite) (no_words words)
 
--- the event that a line's first word and the words after it are, for any store
+-- the event that a line of a script means, of those over any store
 abbrev pub common_event : {I : Type 0} → List ℕ → List (List ℕ) → Result (Event I) LineFault
 common_event word words = ok_or (command_named word) UnknownWord >>= λ c. event_by c words
 
 -- ---- a line that is an event of a keytab
 
--- the words after `add`: four words, and the name, which is the rest of the line
+-- the words after `add`: kvno, enctype, time, key, and the name, which is the rest of the line
 pub record Addition : Type 0 where
   pub kvno : List ℕ
   pub etype : List ℕ
@@ -69,7 +69,7 @@ pub record Addition : Type 0 where
   pub key : List ℕ
   pub name : List ℕ
 
--- four words, and the rest as the name
+-- the words after `add`, of which there must be five or more
 abbrev pub addition_of : List (List ℕ) → Option Addition
 addition_of [] = None
 addition_of (kvno ∷ []) = None
@@ -78,11 +78,11 @@ addition_of (kvno ∷ etype ∷ time ∷ []) = None
 addition_of (kvno ∷ etype ∷ time ∷ key ∷ []) = None
 addition_of (kvno ∷ etype ∷ time ∷ key ∷ name ∷ more) = Some (record { kvno = kvno; etype = etype; time = time; key = key; name = join_with_byte 32 (name ∷ more) })
 
--- the digits of a key; `-` means none
+-- the hexadecimal digits of a key, where `-` is a key of no bytes
 abbrev pub digits_of : List ℕ → List ℕ
 digits_of word = if bytes_eq word (codes "-") then [] else word
 
--- the entry that an addition's words are, or their first fault from left to right
+-- the entry that the words after `add` spell, or the fault of the leftmost bad word
 abbrev pub entry_of : Addition → Result EntryParts LineFault
 entry_of a = do
   version ← number_word a.kvno
@@ -92,16 +92,16 @@ entry_of a = do
   principal ← name_word a.name
   Ok (record { principal = principal; timestamp = timestamp; version = version; enctype = enctype; key = key })
 
--- the entry that these words after `add` are; too few words are a fault
+-- the entry that the words after `add` spell, or their fault, as too few words are one
 abbrev pub entry_in : List (List ℕ) → Result EntryParts LineFault
 entry_in words = ok_or (addition_of words) WordCount >>= entry_of
 
--- the event that the words of a line are, or the first fault
+-- the event that the words of a line mean, or the line's first fault
 abbrev pub event_of : List (List ℕ) → Result (Event EntryParts) LineFault
 event_of [] = Err UnknownWord
 event_of (word ∷ words) = if bytes_eq word (codes "add") then made event.Put (entry_in words) else common_event word words
 
--- the event that a line is, or its first fault; words are separated by single spaces
+-- the event that a line of a script means, or the line's first fault; one space separates words
 abbrev pub event_in : List ℕ → Result (Event EntryParts) LineFault
 event_in line = event_of (pieces 32 line)
 
@@ -112,38 +112,38 @@ abbrev pub is_command : List ℕ → Bool
 is_command [] = false
 is_command (b ∷ others) = not (b == 35)
 
--- those lines that are commands, with their numbers: all lines are numbered, from n on
+-- the lines that are commands, with their numbers, if the first line has number n
 abbrev pub commands_from : ℕ → List (List ℕ) → List (ℕ × List ℕ)
 commands_from n lines = filter (λ line. is_command line.1) (enumerate_from n lines)
 
--- a faulty line, counted from 1, and its first fault
+-- the first fault of a script: the number of its line, from 1 on, and its kind
 pub record ScriptFault : Type 0 where
   pub line : ℕ
   pub kind : LineFault
 
--- the fault of line n, if it has one
+-- the fault of the line of number n, if the line has one
 abbrev pub fault_at : {L : Type 0} → ℕ → Result L LineFault → Option ScriptFault
 fault_at n (Ok x) = None
 fault_at n (Err kind) = Some (record { line = n; kind = kind })
 
--- the faulty lines among these
+-- the faults of lines, in order
 abbrev pub faults_of : {L : Type 0} → (List ℕ → Result L LineFault) → List (ℕ × List ℕ) → List ScriptFault
 faults_of line_in lines = filter_map (λ line. fault_at line.0 (line_in line.1)) lines
 
--- what the other lines are read as
+-- what the lines without a fault are read as
 abbrev pub commands_read : {L : Type 0} → (List ℕ → Result L LineFault) → List (ℕ × List ℕ) → List L
 commands_read line_in lines = filter_map (λ line. result_ok (line_in line.1)) lines
 
--- the first faulty line, or if there is none what was read
+-- what all lines of a script are read as, unless a line has a fault: then the first one
 abbrev pub read_or_fault : {L : Type 0} → List ScriptFault → List L → Result (List L) ScriptFault
 read_or_fault [] read_lines = Ok read_lines
 read_or_fault (fault ∷ others) read_lines = Err fault
 
--- what numbered lines are read as, in order, or the first that is faulty
+-- what lines of a script are read as, in order, or the first fault
 abbrev pub script_of : {L : Type 0} → (List ℕ → Result L LineFault) → List (ℕ × List ℕ) → Result (List L) ScriptFault
 script_of line_in lines = read_or_fault (faults_of line_in lines) (commands_read line_in lines)
 
--- what the lines of a script, numbered from 1, are read as, in order, or its first faulty line with its first fault
+-- what a script's lines are read as, in order, or the first fault; lines are numbered from 1
 abbrev pub script_by : {L : Type 0} → (List ℕ → Result L LineFault) → List ℕ → Result (List L) ScriptFault
 script_by line_in text = script_of line_in (commands_from 1 (pieces 10 text))
 

@@ -12,7 +12,7 @@ is_newline b = b == 10
 abbrev pub HasNone : List ℕ → Type 0
 HasNone bytes = AllByRecursion (λ b. is_newline b ≡ false) bytes
 
--- the lines of an input: the bytes before each newline, and those after the last one, if any
+-- the lines of an input: the bytes before each newline, and those after the last newline, if there are any
 abbrev pub lines_of : List ℕ → List (List ℕ)
 lines_of [] = []
 lines_of (b ∷ bs) = if is_newline b then [] ∷ lines_of bs else onto_first b (lines_of bs)
@@ -27,7 +27,7 @@ pub record InputParts : Type 0 where
 abbrev pub with_newlines : List (List ℕ) → List ℕ
 with_newlines lines = flat_map (λ line. line ++ 10 ∷ []) lines
 
--- bytes are these lines, each with its newline, and then some bytes without one
+-- bytes are lines, each with a newline, and then some bytes without a newline
 pub record CutsOff (lines : List (List ℕ)) (bytes : List ℕ) : Type 0 where
   pub rest : List ℕ
   pub none : HasNone rest

@@ -18,7 +18,7 @@ use Rattle.krb_driver.specs.declared.error.RunError.TheVariants.{AsksForHelp, Fa
 abbrev pub is_blank : ℕ → Bool
 is_blank b = b == 32 || b == 9
 
--- the parts before, between and after the blanks that are not quoted, by whether the first byte is; a backslash quotes the byte after it
+-- the parts of ktutil's line between blanks that are not quoted; a backslash quotes the byte after it
 abbrev pub parts_from : List ℕ → Bool → List (List ℕ)
 parts_from [] quoted = [] ∷ []
 parts_from (b ∷ bs) true = onto_first b (parts_from bs false)
@@ -29,7 +29,7 @@ abbrev pub is_word : List ℕ → Bool
 is_word [] = false
 is_word (b ∷ bs) = true
 
--- the words: the parts that are not empty
+-- the words of ktutil's line: the parts that are not empty
 abbrev pub words : List ℕ → List (List ℕ)
 words line = filter is_word (parts_from line false)
 
@@ -75,11 +75,11 @@ pub data Command : Type 0 where
   ClearList : Command
   Quit : Command
 
--- the word is the command's name, or its short one
+-- a word is a command's long or short name
 abbrev pub is_either : List ℕ → List ℕ → List ℕ → Bool
 is_either word long short = bytes_eq word long || bytes_eq word short
 
--- the command that a word names
+-- the command of ktutil that a word names
 abbrev pub verb_of : List ℕ → Option Verb
 verb_of word =
     if is_either word (codes "list") (codes "l") then Some verb.List
@@ -98,12 +98,12 @@ abbrev pub after : {X Y : Type 0} → (X → Result Y LineFault) → Result X Li
 after then_ (Ok x) = then_ x
 after then_ (Err fault) = Err fault
 
--- there are no words
+-- a command has no words after it
 abbrev pub are_none : List (List ℕ) → Bool
 are_none [] = true
 are_none (word ∷ others) = false
 
--- the word, if there is exactly one
+-- the only word after a command
 abbrev pub only : List (List ℕ) → Result (List ℕ) LineFault
 only [] = Err WordCount
 only (word ∷ others) = if are_none others then Ok word else Err WordCount
@@ -112,7 +112,7 @@ only (word ∷ others) = if are_none others then Ok word else Err WordCount
 abbrev pub plain_columns : KtColumns
 plain_columns = record { times = false; etypes = false; keys = false }
 
--- the columns with the one that an option adds, if it is new
+-- the columns of a list with the one that an option adds, if it is new
 abbrev pub with_column : KtColumns → List ℕ → Option KtColumns
 with_column columns option =
     if bytes_eq option (codes "-t") && not columns.times then Some (record columns { times = true })
@@ -120,7 +120,7 @@ with_column columns option =
     else (if bytes_eq option (codes "-e") && not columns.etypes then Some (record columns { etypes = true })
     else None))
 
--- the columns with those that options add, each option at most once
+-- the columns of a list with those that options add, each option at most once
 abbrev pub columns_in : KtColumns → List (List ℕ) → Option KtColumns
 columns_in columns [] = Some columns
 columns_in columns (option ∷ options) = with_column columns option >>= λ more. columns_in more options
@@ -129,23 +129,23 @@ columns_in columns (option ∷ options) = with_column columns option >>= λ more
 abbrev pub listing : List (List ℕ) → Result Command LineFault
 listing words = after (λ columns. Ok (ListSlots columns)) (ok_or (columns_in plain_columns words) WordCount)
 
--- a file's name, with its type if it has one, in UTF-8
+-- the name of a file in a word, which must be UTF-8
 abbrev pub file_word : List ℕ → Result (List ℕ) LineFault
 file_word word = if is_utf8 word then Ok word else Err BadFileName
 
--- a command on the file that the only word names
+-- a command on the file that its only word names
 abbrev pub on_file : (List ℕ → Command) → List (List ℕ) → Result Command LineFault
 on_file command words = after (λ name. Ok (command name)) (after file_word (only words))
 
--- a slot, counted from 1, if there are that many
+-- a slot, counted from 1, of a list with that many
 abbrev pub slot_of : ℕ → ℕ → Result ℕ LineFault
 slot_of count slot = if nat_lt 0 slot && nat_le slot count then Ok slot else Err BadSlot
 
--- the deletion of the slot that the only word names, if there are that many
+-- the deletion of the slot that the only word names
 abbrev pub deletion : ℕ → List (List ℕ) → Result Command LineFault
 deletion count words = after (λ slot. Ok (DeleteSlot slot)) (after (slot_of count) (after number_word (only words)))
 
--- a command with no word after it
+-- a command that has no words after it
 abbrev pub alone : Command → List (List ℕ) → Result Command LineFault
 alone command words = if are_none words then Ok command else Err WordCount
 
@@ -164,7 +164,7 @@ no_options = record { key = false; name = None; version = None; enctype = None }
 abbrev pub is_new_key : AddOptions → List ℕ → Bool
 is_new_key given option = bytes_eq option (codes "-key") && not given.key
 
--- the options with one more, which has a value, if it is new
+-- the options of an addition with one more and its value, if it is new
 abbrev pub with_option : AddOptions → List ℕ → List ℕ → Option AddOptions
 with_option given option word =
     if bytes_eq option (codes "-p") && is_none given.name then Some (record given { name = Some word })
@@ -172,7 +172,7 @@ with_option given option word =
     else (if bytes_eq option (codes "-e") && is_none given.enctype then Some (record given { enctype = Some word })
     else None))
 
--- the given options with more of them, each at most once
+-- the options of an addition with those in more words, each at most once
 abbrev pub options_in : AddOptions → List (List ℕ) → Option AddOptions
 options_in given [] = Some given
 options_in given (option ∷ []) =
@@ -181,7 +181,7 @@ options_in given (option ∷ word ∷ others) =
     if is_new_key given option then options_in (record given { key = true }) (word ∷ others)
     else (with_option given option word >>= λ more. options_in more others)
 
--- the entry of an addition, if all options are given: its kvno is read first, then its enctype, then its name
+-- the entry of an addition without its key, if all options are given; of several faults the kvno's comes first, then the enctype's, then the name's
 abbrev pub awaited_by : Bool → Option (List ℕ) → Option (List ℕ) → Option (List ℕ) → Result Awaited LineFault
 awaited_by true (Some name) (Some version) (Some enctype) =
     after (λ version.
@@ -198,13 +198,13 @@ awaited_of words = after (λ given. awaited_by given.key given.name given.versio
 abbrev pub addition : List (List ℕ) → Result Command LineFault
 addition words = after (λ awaited. Ok (AwaitKey awaited)) (awaited_of words)
 
--- one of the words is just `-password`
+-- one of the words is `-password`
 abbrev pub has_password : List (List ℕ) → Bool
 has_password words = list_any (λ word. bytes_eq word (codes "-password")) words
 
 -- ---- a line
 
--- the command of a verb with these words after it, over `count` slots
+-- the command of ktutil with its words, over a list of `count` entries
 abbrev pub command_by : ℕ → Option Verb → List (List ℕ) → Result Command LineFault
 command_by count None words = Err UnknownWord
 command_by count (Some verb.List) words = listing words
@@ -220,12 +220,12 @@ abbrev pub is_addition : Option Verb → Bool
 is_addition (Some verb.Add) = true
 is_addition verb = false
 
--- the words of a line are those of an addition with a key from a password
+-- the words of a line ask for an addition with a key from a password
 abbrev pub asks_for_password : List (List ℕ) → Bool
 asks_for_password [] = false
 asks_for_password (command ∷ options) = is_addition (verb_of command) && has_password options
 
--- the command of words, over `count` slots; without words it is `Skip`
+-- the command in the words of ktutil's line, over a list of `count` entries; without words it is `Skip`
 abbrev pub command_in : ℕ → List (List ℕ) → Result Command LineFault
 command_in count [] = Ok Skip
 command_in count (word ∷ words) = command_by count (verb_of word) words
@@ -241,7 +241,7 @@ abbrev pub asks_for_help : List (List ℕ) → Bool
 asks_for_help [] = false
 asks_for_help (command ∷ others) = is_either command (codes "?") (codes "help") || is_either command (codes "lr") (codes "list_requests")
 
--- the error for a line of that number, with these words and that fault
+-- the error for a line of ktutil with a fault
 abbrev pub fault_error : ℕ → List (List ℕ) → LineFault → RunError
 fault_error number words WordCount = if asks_for_password words then FromPassword number else FaultyLine number WordCount
 fault_error number words UnknownWord = if asks_for_help words then AsksForHelp number else FaultyLine number UnknownWord

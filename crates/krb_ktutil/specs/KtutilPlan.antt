@@ -53,14 +53,14 @@ abbrev pub awaited_entry : {K : Type 0} → Awaiting K → Option K
 awaited_entry (Key x) = Some x
 awaited_entry awaiting = None
 
--- what a line comes to: the list after it, its effect, whether no line comes after it, and whether it takes memory
+-- what a line of ktutil comes to: the list after it, its effect, whether it is the last line, and whether it takes memory
 pub record Came : Type 0 where
   pub state : KtutilState
   pub effect : Effect
   pub quits : Bool
   pub takes : Bool
 
--- all that a line does
+-- the plan of a line of ktutil
 abbrev pub LinePlan : Type 0
 LinePlan = Plan Came
 
@@ -80,25 +80,25 @@ grows_to s = record (becomes s) { takes = true }
 abbrev pub fails : KtutilState → List ℕ → RunError → Came
 fails s file why = record { state = s; effect = Fails file why; quits = false; takes = false }
 
--- what a line comes to if its file is not read, or if memory runs out
+-- what a line of ktutil comes to where its file is not read, or memory runs out
 abbrev pub line_faults : KtutilState → Faults Came
 line_faults s = record { unread = λ name. fails s name error.FileNotRead; spent = λ name. fails s name error.NoMemory }
 
 -- ---- files
 
--- the entries of a keytab are appended to the list; a damaged one is refused
+-- what `read_kt` comes to: the entries of a keytab are appended to the list, unless the keytab is damaged
 abbrev pub with_entries : KtutilState → ℕ → List ℕ → Result KeytabState NoKeytab → Came
 with_entries s number name (Err why) = fails s name (no_keytab_error why)
 with_entries s number name (Ok k) =
     if is_some (fault_of (store_of k)) then fails s name (error.LineRefused number code.Damaged)
     else grows_to (record s { entries = s.entries ++ entries k })
 
--- a keytab, and the places at which entries were added to it
+-- a keytab, and the places of the entries that were added to it
 pub record Added : Type 0 where
   pub keytab : KeytabState
   pub places : List ℕ
 
--- the verdict of the save of a keytab with these entries, if `hidden` is the place from which on MIT's programs see none
+-- the verdict of `write_kt`, with the place from which on MIT's programs see no entry, if they miss one
 abbrev pub verdict_by : List PlacedEntry → Option ℕ → Verdict
 verdict_by [] hidden = NoEntry
 verdict_by (entry ∷ others) hidden = hiding hidden Well
@@ -111,11 +111,11 @@ saved_verdict x = verdict_by (placed_entries x.keytab) (hides_added x.keytab x.p
 abbrev pub none_added : KeytabState → Added
 none_added k = record { keytab = k; places = [] }
 
--- a keytab after one more addition, which gave a place and a keytab
+-- a keytab after one addition more, at a place
 abbrev pub more_added : Added → ℕ × KeytabState → Added
 more_added x given = record { keytab = given.1; places = x.places ++ given.0 ∷ [] }
 
--- a keytab with these entries added one after the other, or the first refusal
+-- a keytab with entries added one after the other, or the first refusal
 abbrev pub with_added : List EntryParts → Result Added Code → Result Added Code
 with_added es (Err refused) = Err refused
 with_added [] (Ok x) = Ok x
@@ -133,7 +133,7 @@ written_to s number name (Err why) = fails s name (no_keytab_error why)
 
 -- ---- a key
 
--- the key of a line, which has at least one byte
+-- the key in a line that ktutil awaited
 abbrev pub key_line : ℕ → List ℕ → Result (List ℕ) LineFault
 key_line enctype line = if is_word (trimmed line) then key_word enctype (trimmed line) else Err BadKey
 
@@ -141,7 +141,7 @@ key_line enctype line = if is_word (trimmed line) then key_word enctype (trimmed
 abbrev pub entry_of : Awaited → ℕ → List ℕ → EntryParts
 entry_of x now key = record { principal = x.principal; timestamp = now; version = x.version; enctype = x.enctype; key = key }
 
--- the entry is appended to the list; after a faulty key it is dropped
+-- what the line of a key comes to: the entry is appended to the list, or dropped if the key is faulty
 abbrev pub with_key : KtutilState → ℕ → List (List ℕ) → Awaited → ℕ → Result (List ℕ) LineFault → Came
 with_key s number line x now (Ok key) = grows_to (record s { entries = s.entries ++ entry_of x now key ∷ []; awaiting = Nothing })
 with_key s number line x now (Err fault) = fails (record s { awaiting = Nothing }) [] (fault_error number line fault)
@@ -156,11 +156,11 @@ reading_plan s number name = Loads name (λ answer. Ends (with_entries s number 
 abbrev pub writing_plan : KtutilState → ℕ → List ℕ → LinePlan
 writing_plan s number name = Loads name (λ answer. Ends (written_to s number name (keytab_or_new s.order false answer)))
 
--- the state after a faulty line: a password is awaited if the line asks for one
+-- what ktutil awaits after a faulty line: a password, if the line asks for one
 abbrev pub after_fault : Bool → KtutilState → KtutilState
 after_fault asks s = record s { awaiting = if asks then Password else s.awaiting }
 
--- the plan of a command on a line of that number: only a file is read, named with its type or without it, and nothing is written under a name that begins with a type
+-- the plan of a command on a line of ktutil: names of files may have a type where a file is read, and not where one is written
 abbrev pub command_plan : KtutilState → ℕ → Command → LinePlan
 command_plan s number Skip = Ends (becomes s)
 command_plan s number (ListSlots columns) = Ends (record (prints s (slot_text columns s.entries)) { takes = true })
@@ -173,18 +173,18 @@ command_plan s number (DeleteSlot slot) = Ends (becomes (record s { entries = re
 command_plan s number ClearList = Ends (becomes (record s { entries = [] }))
 command_plan s number Quit = Ends (record (becomes s) { quits = true })
 
--- all that a line with these words does, or what its fault comes to
+-- the plan of a line of ktutil by its words, or by its fault
 abbrev pub words_plan : KtutilState → ℕ → List (List ℕ) → Result Command LineFault → LinePlan
 words_plan s number line (Ok command) = command_plan s number command
 words_plan s number line (Err fault) = Ends (fails (after_fault (asks_for_password line) s) [] (fault_error number line fault))
 
--- if a key or a password is awaited, the line is that, whatever it is; a password is passed over
+-- the plan of a line of ktutil: a key or a password where one is awaited, and else a command; a password is passed over
 abbrev pub plan_by : KtutilState → ℕ → ℕ → List ℕ → Awaiting Awaited → LinePlan
 plan_by s now number line Nothing = words_plan s number (words line) (command_of line (length s.entries))
 plan_by s now number line (Key x) = Ends (with_key s number (words line) x now (key_line x.enctype line))
 plan_by s now number line Password = Ends (becomes (record s { awaiting = Nothing }))
 
--- the plan of a line of that number
+-- the plan of a line of ktutil
 abbrev pub plan_of : KtutilState → ℕ → ℕ → List ℕ → LinePlan
 plan_of s now number line = plan_by s now number line s.awaiting
 
@@ -204,7 +204,7 @@ RefusesAdded added refusal.NoMemory = Unit {0}
 abbrev pub line_effect : {A : Type 0} → Line A → Effect
 line_effect made = text_effect made.file.now made.made
 
--- a list, an effect and whether no line comes after it are those that a line comes to
+-- a list, an effect and whether the line is the last are those that a line of ktutil comes to
 pub record IsCame (came : Came) (state : KtutilState) (effect : Effect) (quits : Bool) : Type 0 where
   pub state_is : state ≡ came.state
   pub effect_is : effect ≡ came.effect
@@ -225,7 +225,7 @@ abbrev pub EndsAt : LinePlan → KtutilState → KtutilState → Effect → Bool
 EndsAt (Ends came) old new effect quits = IsCame came new effect quits ⊎ (IsTrue came.takes × RunsOut old new effect quits)
 EndsAt plan old new effect quits = ⊥
 
--- a line was made by its plan, or one that takes memory ran out of it
+-- a line of ktutil was made by its plan, which took the files from `files` to `files'` and the list from `old` to `new`; or memory ran out
 pub record MakesLine {F : Type 0} (trait : Ghosts F) (plan : LinePlan) (files files' : F) (old new : KtutilState) (effect : Effect) (quits : Bool) : Type 0 where
   pub answers : List Answer
   pub loads : Loaded trait plan files answers files'
@@ -233,7 +233,7 @@ pub record MakesLine {F : Type 0} (trait : Ghosts F) (plan : LinePlan) (files fi
   pub made : (came ≡ by (line_faults old) plan answers) ⊎ (IsTrue (takes_memory plan) × ((file : List ℕ) × (came ≡ fails old file error.NoMemory)))
   pub is : IsCame came new effect quits
 
--- a line that fails leaves the entries, and the list if memory ran out; one that saves leaves the list; and to show a page takes no memory
+-- a line of ktutil that fails leaves the entries, one that saves leaves the list, and printing a page takes no memory
 abbrev pub Spares : KtutilState → KtutilState → Effect → Type 0
 Spares old new (Fails file why) = (new.entries ≡ old.entries) × (why ≡ error.NoMemory → new ≡ old)
 Spares old new (Displays file page) = page.takes ≡ false

@@ -32,7 +32,7 @@ prompt_of Password = codes "password (not used): "
 abbrev pub last_prompt : Awaiting Awaited → List ℕ
 last_prompt awaiting = prompt_of awaiting ++ 10 ∷ []
 
--- if there are prompts, that one was written to the error output, whole unless that has failed; without them nothing was
+-- a prompt was written, from the error output `err` to `err'`, if there are prompts
 abbrev pub Prompts : Bool → List ℕ → ErrorWatch → ErrorWatch → Type 0
 Prompts true prompt old new = Writes old.to new.to prompt × (new.explains ≡ old.explains)
 Prompts false prompt old new = new ≡ old
@@ -45,11 +45,11 @@ PromptsOn prompts text old new = (start : ErrorWatch) (before : List ℕ) → Pr
 
 -- ---- a run of ktutil, line by line
 
--- another line may come after one that ended so: it does not quit, and memory did not run out
+-- another line may come: the one before does not end the run, and memory did not run out
 abbrev pub goes_on : Bool → Ending → Bool
 goes_on quits ending = not quits && not (is_spent ending)
 
--- a run between two lines: the files, the list of entries and what is awaited, the outputs, and the worst status so far
+-- where a run of ktutil is, between two lines: the files, the list and what is awaited, the outputs, and the greatest status so far
 pub record Talk (F : Type 0) : Type 0 where
   pub files : F
   pub state : KtutilState
@@ -57,7 +57,7 @@ pub record Talk (F : Type 0) : Type 0 where
   pub err : ErrorWatch
   pub status : ℕ
 
--- a run before its first line
+-- where a run of ktutil begins
 abbrev pub first_talk : {F : Type 0} → Order → F → Watch → ErrorWatch → Talk F
 first_talk order files out err = record {
   files = files;
@@ -72,7 +72,7 @@ abbrev pub AreFirst : List (List ℕ) → Option (List ℕ) → Type 0
 AreFirst lines given = IfSome given (λ bytes. (more : List (List ℕ)) × (lines_of bytes ≡ lines ++ more))
 
 module _ {F : Type 0} (trait : Ghosts F) (now : ℕ) where
-  -- a line was made by its plan, what it came to was done and reported, and the worst status was kept
+  -- a line of ktutil was made by its plan, done and reported, which took the run from `old` to `new`
   pub record HandlesLine (number : ℕ) (line : List ℕ) (old new : Talk F) : Type 0 where
     pub effect : Effect
     pub quits : Bool
@@ -85,13 +85,13 @@ module _ {F : Type 0} (trait : Ghosts F) (now : ℕ) where
     -- over honest files
     pub honest : trait.is_honest old.files → Keeps trait (follow (trait.file old.files) (plan_of old.state now number line)).effect old.files new.files finishes.left
 
-  -- a line was run, and this is whether the next one may come: not if it quits, or memory ran out, or the output failed
+  -- a line of ktutil was run, and this is whether another may come: not after an end, or if memory ran out or the output failed
   abbrev pub HandlesNext : ℕ → List ℕ → Talk F → Talk F → Bool → Type 0
   HandlesNext number line old new true = (handles : HandlesLine number line old new) × IsTrue (goes_on handles.quits handles.end.ending) × IsFalse new.out.failed
   HandlesNext number line old new false = (handles : HandlesLine number line old new) × (IsFalse (goes_on handles.quits handles.end.ending) ⊎ IsTrue new.out.failed)
 
   module _ (prompts : Bool) where
-    -- lines were run one after the other, each after its prompt, the first of them with that number
+    -- lines of ktutil were run one after the other, each after its prompt, the first with that number, which took the run from `old` to `new`
     abbrev pub TalksOver : ℕ → List (List ℕ) → Talk F → Talk F → Type 0
     TalksOver number [] old new = new ≡ old
     TalksOver number (line ∷ lines) old new =
@@ -99,14 +99,14 @@ module _ {F : Type 0} (trait : Ghosts F) (now : ℕ) where
         × HandlesNext number line (record old { err = asked }) between true × TalksOver (number + 1) lines between new
 
     module _ (input input' : Source) (lines : List (List ℕ)) (last end : Talk F) where
-      -- the input has these lines and no more; a newline follows the last prompt
+      -- the input of ktutil has these lines and no more; a newline is written after the last prompt
       pub record EndsAfterLines : Type 0 where
         pub all : IfSome input.left (λ bytes. lines_of bytes ≡ lines)
         pub well : input'.failed ≡ input.failed
         pub prompted : Prompts prompts (last_prompt last.state.awaiting) last.err end.err
         pub same : end ≡ record last { err = end.err }
 
-      -- one more line was run after its prompt, and it was the last
+      -- a line of ktutil more was run after its prompt, and it was the last
       pub record EndsInLine : Type 0 where
         pub line : List ℕ
         pub first : AreFirst (lines ++ line ∷ []) input.left
@@ -135,38 +135,38 @@ module _ {F : Type 0} (trait : Ghosts F) (now : ℕ) where
         pub files : end.files ≡ last.files
         pub out : end.out ≡ last.out
 
-      -- why no line came after these
+      -- why no line of ktutil came after these
       abbrev pub EndsTalk : Type 0
       EndsTalk = EndsAfterLines ⊎ (EndsInLine ⊎ EndsUnread)
 
 -- ---- what is due after the lines of ktutil if the files are honest
 
--- a report: the prompt before it, the file that may be named, the line, and its ending
+-- a report that is due: the prompt before it, the file that it may name, the line, and the ending
 pub record DueReport : Type 0 where
   pub prompt : List ℕ
   pub file : List ℕ
   pub line : Option ℕ
   pub ending : Ending
 
--- what lines come to: the files after them, what is printed, and what is reported, in order
+-- what lines of ktutil come to: the files after them, what is printed, and the reports, in order
 pub record TalkDue : Type 0 where
   pub files : FileMap
   pub out : List ℕ
   pub reported : List DueReport
 
--- the report of a run of that line, which may name that file, after that prompt
+-- the report that is due for a line of ktutil
 abbrev pub report_of : List ℕ → List ℕ → Option ℕ → Run → DueReport
 report_of prompt file line run = record { prompt = prompt; file = file; line = line; ending = run.ending }
 
--- one run with that report, and no line after it
+-- what is due of a line of ktutil that is the last
 abbrev pub last_due : List ℕ → DueReport → FileMap → TalkDue
 last_due out report files = record { files = files; out = out; reported = report ∷ [] }
 
--- one run with that report, and then what is due after it
+-- what is due of a line of ktutil, and of those after it
 abbrev pub due_after : List ℕ → DueReport → TalkDue → TalkDue
 due_after out report due = record { files = due.files; out = out ++ due.out; reported = report ∷ due.reported }
 
--- the prompt after all lines: at the end of the input a newline follows it
+-- the prompt after all lines of ktutil, with a newline at the end of the input
 abbrev pub final_prompt : Awaiting Awaited → Ending → List ℕ
 final_prompt awaiting (Ok verdict) = last_prompt awaiting
 final_prompt awaiting (Err error) = prompt_of awaiting
@@ -175,17 +175,17 @@ final_prompt awaiting (Err error) = prompt_of awaiting
 abbrev pub final_report : Awaiting Awaited → Run → DueReport
 final_report awaiting run = report_of (final_prompt awaiting run.ending) [] None run
 
--- what an effect prints, and how it ends, if no call fails
+-- what an effect prints, and how the run ends, if no call fails
 abbrev pub run_of : Effect → Run
 run_of (Fails file why) = ends_by why
 run_of (Displays file page) = record { out = page.out; ending = page.ending }
 run_of (Saves file bytes out verdict) = record { out = out; ending = Ok verdict }
 
--- the report of a line's effect after its prompt
+-- the report of the effect of ktutil's line, after its prompt
 abbrev pub line_report : Awaiting Awaited → ℕ → Effect → DueReport
 line_report awaiting number effect = report_of (prompt_of awaiting) (about effect) (Some number) (run_of effect)
 
--- what is due after lines, run in order from that number up to one that is the last; `final` is due after all of them
+-- what is due of lines of ktutil, run in order from a number on, up to one that is the last; `final` is due after all of them
 abbrev pub talk_due : Run → ℕ → ℕ → List (List ℕ) → KtutilState → FileMap → TalkDue
 talk_due final now number [] state files = last_due final.out (final_report state.awaiting final) files
 talk_due final now number (line ∷ lines) state files =
@@ -196,13 +196,13 @@ talk_due final now number (line ∷ lines) state files =
     then due_after run.out report (talk_due final now (number + 1) lines came.state (files_after files came.effect))
     else last_due run.out report (files_after files came.effect)
 
--- an ending was reported, with that status, its message whole unless the writer has failed; no save left anything behind
+-- a report that is due was written, with this status, from the error output `old` to `new`; no save left anything behind
 pub record ReportsDue (due : DueReport) (old new : ErrorWatch) (status : ℕ) : Type 0 where
   pub details : Details
   pub reported : Reports due.file due.line details due.ending old new status
   pub untold : details.aftermath ≡ None
 
--- these endings were reported in order, each after its prompt, and this is the worst of their statuses
+-- reports that are due were written in order, each after its prompt, and this is the greatest of their statuses
 abbrev pub ReportsInTurn : Bool → ErrorWatch → ErrorWatch → List DueReport → ℕ → Type 0
 ReportsInTurn prompts old new [] worst = (new ≡ old) × (worst ≡ 0)
 ReportsInTurn prompts old new (t ∷ others) worst =
@@ -213,7 +213,7 @@ ReportsInTurn prompts old new (t ∷ others) worst =
 abbrev pub quiet_run : Run
 quiet_run = record { out = []; ending = Ok Well }
 
--- the lines of an input, and what is due after them: nothing at its end, or the report why no further line was run
+-- the lines of ktutil's input, and what is due after them: nothing at its end, or the report why no line more was run
 pub record GivesLines (given : Option (List ℕ)) (lines : List (List ℕ)) (final : Run) : Type 0 where
   pub gives : (IfSome given (λ bytes. lines_of bytes ≡ lines) × (final ≡ quiet_run)) ⊎ (AreFirst lines given × ((fault : LoadFault) × (final ≡ ends_by (input_error fault))))
 
@@ -232,7 +232,7 @@ module _ {F : Type 0} (trait : Ghosts F) (prompts : Bool) where
       CountsFailure (trait.failure_count old.files) (trait.failure_count new.files)
       ⊎ (IsTrue new.out.failed ⊎ LeavesDue due old new)
 
-  -- over honest files a run leaves what is due after the lines of its input, or after those before memory ran out
+  -- over honest files a run of ktutil leaves what is due of the lines of its input, or of those before memory ran out
   pub record TalksHonestly (now : ℕ) (given : Option (List ℕ)) (old new : Talk F) : Type 0 where
     pub lines : List (List ℕ)
     pub final : Run
@@ -241,7 +241,7 @@ module _ {F : Type 0} (trait : Ghosts F) (prompts : Bool) where
 
 -- ---- what a run of ktutil does
 
--- a run of ktutil: the lines of the input are run in order, each after its prompt if there are prompts, up to one that is the last or to the end
+-- a run of ktutil took the world from `old` to `new` with this status: the lines of the input were run in order, each after its prompt if there are prompts, up to one that is the last or to the end
 pub record RunsKtutil {F R W E : Type 0} (trait : Ghosts F) (order : Order) (prompts : Bool) (now : ℕ) (old new : World F R W E) (status : ℕ) : Type 0 where
   pub lines : List (List ℕ)
   pub last : Talk F

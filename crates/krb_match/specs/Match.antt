@@ -14,7 +14,7 @@ use Rattle.krb_match.specs.declared.judgement.Judgement.TheVariants.{User, Unrea
 
 -- ---- a ticket
 
--- what a ticket is judged by: whether it is under the session key of another ticket, its own encryption, and its name
+-- what ktmatch knows of a ticket: whether it is under another ticket's session key, its own encryption, and its server's name
 pub record Ticket : Type 0 where
   pub is_skey : ℕ
   pub encryption : Option TicketEncryption
@@ -24,11 +24,11 @@ pub record Ticket : Type 0 where
 abbrev pub ticket_of : CredParts → Parts → Ticket
 ticket_of c name = record { is_skey = c.is_skey; encryption = ticket_encryption c.ticket; name = name }
 
--- the name of a ticket: the server that it names itself, if it does, or else its credential's
+-- the name of a ticket's server: the one that the ticket itself has, or else its credential's
 abbrev pub name_of : CredParts → Parts
 name_of c = unwrap_or (ticket_server c.ticket) c.server
 
--- the version that a ticket asks for, unless that is left out or 0
+-- the kvno that a ticket asks for, unless it has none or 0
 abbrev pub asked_version : Option ℕ → Option ℕ
 asked_version None = None
 asked_version (Some v) = if v == 0 then None else Some v
@@ -43,7 +43,7 @@ named name xs = filter (λ x. have_same_name name x.1.principal) xs
 abbrev pub has_name : Parts → List PlacedEntry → Bool
 has_name name xs = list_any (λ x. have_same_name name x.1.principal) xs
 
--- a version fits the one asked for: it is that, its low eight bits, or 0; any fits if none is asked for
+-- the kvno of an entry fits the one that a ticket asks for: it is equal, equal in eight bits, or 0; any fits if the ticket asks for none
 abbrev pub fits : Option ℕ → ℕ → Bool
 fits None v = true
 fits (Some asked) v = v == asked || (v == asked % 256 || v == 0)
@@ -52,7 +52,7 @@ fits (Some asked) v = v == asked || (v == asked % 256 || v == 0)
 abbrev pub fitting : Option ℕ → List PlacedEntry → List PlacedEntry
 fitting asked xs = filter (λ x. fits asked x.1.version) xs
 
--- the enctype of entries that a number of 32 bits is, if it can be one
+-- the enctype of an entry that is a ticket's, if that is not below 0
 abbrev pub entry_etype : ℤ → Option ℕ
 entry_etype (pos n) = Some n
 entry_etype (negsuc n) = None
@@ -61,25 +61,25 @@ entry_etype (negsuc n) = None
 abbrev pub newest_version : List PlacedEntry → ℕ
 newest_version xs = option_map_or (λ e. e.version) (newest_from None xs) 0
 
--- the version that is looked for first: the one asked for, or the newest
+-- the kvno that ktmatch looks for first: the one that the ticket asks for, or the newest
 abbrev pub wanted : Option ℕ → List PlacedEntry → ℕ
 wanted None xs = newest_version xs
 wanted (Some asked) xs = asked
 
--- of entries of a name and an enctype, the one that opens a ticket: the first of the version wanted, or else the first that fits
+-- the entry that opens a ticket, of those of its name and enctype: the first of the kvno that is looked for, or else the first that fits
 abbrev pub opener_among : Option ℕ → List PlacedEntry → Option PlacedEntry
 opener_among asked xs = option_or (find (λ x. x.1.version == wanted asked xs) xs) (find (λ x. fits asked x.1.version) xs)
 
--- of entries of a name, the one that opens a ticket of an enctype
+-- the entry that opens a ticket, of those of its name
 abbrev pub opener : Option ℕ → Option ℕ → List PlacedEntry → Option PlacedEntry
 opener asked None xs = None
 opener asked (Some etype) xs = opener_among asked (filter (λ x. x.1.enctype == etype) xs)
 
--- an enctype is not among those found
+-- an enctype is not one of those found so far
 abbrev pub is_new : List ℕ → ℕ → Bool
 is_new found etype = not (list_any (λ n. n == etype) found)
 
--- those found, and then at most so many more: each time that of the first entry that has a new one
+-- the enctypes found so far, and at most n more of entries, each once, in file order
 unfoldable pub etypes_from : ℕ → List ℕ → List PlacedEntry → List ℕ
 etypes_from zero found xs = found
 etypes_from (suc n) found xs = option_map_or (λ x. etypes_from n (found ++ x.1.enctype ∷ []) xs) (find (λ x. is_new found x.1.enctype) xs) found
@@ -90,24 +90,24 @@ etypes_of xs = etypes_from 9 [] xs
 
 -- ---- the judgement
 
--- why no entry of its name opens a ticket: no version fits, or none of these enctypes, which those that fit have
+-- why no entry of a ticket's name opens it: no kvno fits, or only entries of other enctypes fit
 abbrev pub no_opener : ℕ → List ℕ → Judgement
 no_opener newest [] = Kvno newest
 no_opener newest (n ∷ ns) = Etype (n ∷ ns)
 
--- an entry opens it, or there is that reason
+-- the entry opens the ticket, or why none does
 abbrev pub opens_or : Judgement → Option PlacedEntry → Judgement
 opens_or why None = why
 opens_or why (Some x) = Opens x.0
 
--- a ticket with that encryption, by the entries of its name
+-- what a keytab says of a ticket by the entries of its name
 abbrev pub judged_among : TicketEncryption → List PlacedEntry → Judgement
 judged_among e [] = Name
 judged_among e (x ∷ xs) =
     opens_or (no_opener (newest_version (x ∷ xs)) (etypes_of (fitting (asked_version e.kvno) (x ∷ xs))))
     (opener (asked_version e.kvno) (entry_etype e.etype) (x ∷ xs))
 
--- the same, if its encryption can be read
+-- what a keytab says of a ticket by the entries of its name, if the ticket's own encryption can be read
 abbrev pub judged_read : List PlacedEntry → Option TicketEncryption → Judgement
 judged_read xs None = Unread
 judged_read xs (Some e) = judged_among e xs

@@ -12,30 +12,30 @@ use Rattle.krb_keytab.specs.Store.{KeytabState}
 use Rattle.krb_copy.specs.Classes.{emptiness}
 use Rattle.krb_match.specs.declared.names.EntryNames.{EntryNames}
 
--- a name as a key: whether it has no components, and its text
+-- a name as a key: whether it has components, and its text
 abbrev pub name_key : Parts → List ℕ
 name_key p = emptiness p ∷ name_text p
 
 abbrev pub entry_key : PlacedEntry → List ℕ
 entry_key x = name_key x.1.principal
 
--- that key with small letters
+-- a name as a key, in lower case
 abbrev pub folded_key : Parts → List ℕ
 folded_key p = map to_ascii_lowercase (name_key p)
 
--- the key of a name without its realm
+-- a name as a key, without its realm
 abbrev pub bare_key : Parts → List ℕ
 bare_key p = name_key (record p { realm = [] })
 
--- two names are the same but for the case of ASCII letters, or but for the realm
+-- two names are nearly equal: but for the case of ASCII letters, or but for the realm
 abbrev pub is_near : Parts → Parts → Bool
 is_near p q = bytes_eq (folded_key p) (folded_key q) || bytes_eq (bare_key p) (bare_key q)
 
--- the number of the first entry whose name is nearly that, if entries are numbered from 0
+-- the number of the first entry whose name is nearly equal to a name
 abbrev pub near_entry : List PlacedEntry → Parts → Option ℕ
 near_entry xs p = position_from (λ x. is_near p x.1.principal) 0 xs
 
--- the name of the entry with a number, if there is one
+-- the name of the entry with a number in a keytab, as text
 abbrev pub entry_text : KeytabState → ℕ → List ℕ
 entry_text k n = option_map_or (λ x. name_text x.1.principal) (slice_get (placed_entries k) n) []
 

@@ -22,32 +22,32 @@ finding_of (Opens place) = None
 abbrev pub word_of : Judgement → List ℕ
 word_of j = option_map_or (λ f. (row_of f).word) (finding_of j) (codes "opens")
 
--- it counts for the status: the keytab does not open the ticket, though a keytab could
+-- a ticket counts for the status: the keytab does not open it, though a keytab could
 abbrev pub is_wrong : Judgement → Bool
 is_wrong j = option_map_or (λ f. (row_of f).counts) (finding_of j) false
 
 -- ---- lines
 
--- a version, or `-` if it is left out
+-- a kvno as text, `-` if a ticket has none
 abbrev pub kvno_text : Option ℕ → List ℕ
 kvno_text None = codes "-"
 kvno_text (Some kvno) = decimal kvno
 
--- the version and the enctype of a ticket, if they were read
+-- the kvno and the enctype in the line of a ticket, if its encryption can be read
 abbrev pub numbers : Option TicketEncryption → List ℕ
 numbers None = []
 numbers (Some e) = codes " kvno " ++ (kvno_text e.kvno ++ (codes " etype " ++ signed_decimal e.etype))
 
--- enctypes with a comma before each, but before the first only if others are before them
+-- enctypes in the line of a ticket, with commas between them
 abbrev pub etype_list : Bool → List ℕ → List ℕ
 etype_list first [] = []
 etype_list first (n ∷ ns) = (if first then [] else codes ",") ++ (decimal n ++ etype_list false ns)
 
--- at most eight enctypes, and whether there are more
+-- at most eight enctypes in the line of a ticket, and `,..` if there are more
 unfoldable pub etypes_text : List ℕ → List ℕ
 etypes_text ns = etype_list true (take 8 ns) ++ (if nat_lt 8 (length ns) then codes ",.." else [])
 
--- what a line has between the ticket's place and its name
+-- what the line of a ticket has between its place and its name
 abbrev pub details : Option TicketEncryption → Judgement → List ℕ
 details e User = []
 details e Unread = []
@@ -56,6 +56,6 @@ details e (Kvno newest) = numbers e ++ (codes " has " ++ decimal newest)
 details e (Etype etypes) = numbers e ++ (codes " has " ++ etypes_text etypes)
 details e (Opens place) = numbers e ++ (codes " at " ++ decimal place)
 
--- the line of a ticket at a place, with its name as it is printed
+-- the line of a ticket: the word of what is said of it, its place, details and its name
 abbrev pub judgement_line : ℕ → Option TicketEncryption → List ℕ → Judgement → List ℕ
 judgement_line place e name j = word_of j ++ (codes " " ++ (decimal place ++ (details e j ++ (codes " " ++ (name ++ codes "\n")))))

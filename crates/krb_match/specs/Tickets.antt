@@ -18,16 +18,16 @@ use Rattle.krb_match.specs.Match.{has_name, judged, name_of, ticket_of}
 use Rattle.krb_match.specs.Names.{near_entry}
 use Rattle.krb_match.specs.Said.{judgement_line}
 
--- a ticket is one of those asked for: its name, or its server, prints as one of the names; or if none are given it is for a service, or an entry has its name
+-- a ticket is asked for: its own server's name or its credential's is one of the names; without names it is for a service, or an entry has its name
 abbrev pub is_asked : List (List ℕ) → List PlacedEntry → CredParts → Bool
 is_asked [] xs c = is_service (name_of c) || has_name (name_of c) xs
 is_asked (n ∷ names) xs c = has_text (n ∷ names) c.server || has_text (n ∷ names) (name_of c)
 
--- a credential is a ticket that is looked at: not of gssproxy, and asked for
+-- a credential is a ticket that ktmatch looks at: asked for, and not gssproxy's
 abbrev pub is_looked_at : List (List ℕ) → List PlacedEntry → CredParts → Bool
 is_looked_at names xs c = not (is_config c) && (not (is_of_gssproxy c.server) && is_asked names xs c)
 
--- a ticket that is looked at: its place, its own encryption, its name as it is printed, and what is said of it
+-- a ticket that ktmatch looked at: its place, its encryption, its name as text, and what the keytab says of it
 pub record MatchedParts : Type 0 where
   pub place : ℕ
   pub encryption : Option TicketEncryption
@@ -38,33 +38,34 @@ pub record MatchedParts : Type 0 where
 abbrev pub said : List PlacedEntry → CredParts → Judgement
 said xs c = judged xs (ticket_of c (name_of c))
 
+-- what ktmatch says of a ticket of a cache, by the entries of the keytab
 abbrev pub matched : List PlacedEntry → PlacedCredential → MatchedParts
 matched xs (place, c) = record { place = place; encryption = ticket_encryption c.ticket; name = name_text (name_of c); judgement = said xs c }
 
--- its line
+-- the line that ktmatch prints of a ticket
 abbrev pub matched_line : MatchedParts → List ℕ
 matched_line t = judgement_line t.place t.encryption t.name t.judgement
 
--- those among credentials that are looked at
+-- the credentials that ktmatch looks at
 abbrev pub looked_at : List (List ℕ) → List PlacedEntry → List PlacedCredential → List PlacedCredential
 looked_at names xs cs = filter (λ c. is_looked_at names xs c.1) cs
 
--- the tickets of a cache that are looked at, in file order
+-- what ktmatch says of the tickets of a cache, in file order
 abbrev pub matched_tickets : List (List ℕ) → KeytabState → CacheState → List MatchedParts
 matched_tickets names k c = map (matched (placed_entries k)) (looked_at names (placed_entries k) (placed_credentials c))
 
 -- ---- the entry that is named
 
--- the entry whose name is nearly a ticket's, of whose name there is none
+-- the number of the entry whose name is nearly that of a ticket, if no entry has the ticket's name
 abbrev pub near_by : List PlacedEntry → Parts → Judgement → Option ℕ
 near_by xs name Name = near_entry xs name
 near_by xs name judgement = None
 
--- that of the first of some tickets that has one
+-- the number of the entry whose name is nearly that of a ticket, of the first ticket that has such an entry
 abbrev pub first_near : List PlacedEntry → List PlacedCredential → Option ℕ
 first_near xs [] = None
 first_near xs (c ∷ cs) = option_or (near_by xs (name_of c.1) (said xs c.1)) (first_near xs cs)
 
--- that of the tickets of a cache that are looked at, if one is wanted
+-- the number of the entry whose name is nearly that of a ticket of a cache, if it is wanted
 abbrev pub near_ticket : Bool → List (List ℕ) → KeytabState → CacheState → Option ℕ
 near_ticket wanted names k c = if wanted then first_near (placed_entries k) (looked_at names (placed_entries k) (placed_credentials c)) else None

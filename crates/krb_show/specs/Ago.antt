@@ -2,15 +2,15 @@
 use Rattle.std.specs.Prelude.{ℕ, ◌-◌, ◌*◌, ◌/◌, ◌==◌, nat_le, nat_lt, List, [], ◌∷◌, ◌++◌, codes, decimal, unwrap_or, if◌then◌else◌}
 use Rattle.std.specs.List.{find}
 
--- the units, greatest first: their seconds, and the end of a text in them
+-- the units of time spans, the greatest first: their seconds and their text
 abbrev pub units : List (ℕ × List ℕ)
 units = (31536000, codes " y") ∷ (86400, codes " d") ∷ (3600, codes " h") ∷ (60, codes " min") ∷ []
 
--- the unit of some seconds: the greatest that fits twice or more, else the second
+-- the unit of some seconds: the greatest that fits twice or more, or else the second
 abbrev pub unit_of : ℕ → ℕ × List ℕ
 unit_of n = unwrap_or (find (λ unit. nat_le (2 * unit.0) n) units) (1, codes " s")
 
--- some seconds in their unit, rounded down
+-- some seconds as text, in their unit, rounded down
 unfoldable pub span : ℕ → List ℕ
 span n = decimal (n / (unit_of n).0) ++ (unit_of n).1
 

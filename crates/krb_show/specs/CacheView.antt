@@ -13,17 +13,17 @@ use Rattle.krb_show.specs.Ago.{ago, time_cell}
 use Rattle.krb_show.specs.Columns.{counted, table}
 use Rattle.krb_show.specs.EtypeNames.{encryption_cell, etype_cell}
 
--- the tickets among credentials: those that are no configuration
+-- the tickets among credentials, without configuration entries
 abbrev pub tickets : List PlacedCredential → List CredParts
 tickets xs = filter (λ c. not (is_config c)) (map (λ x. x.1) xs)
 
 -- ---- the cells of a ticket
 
--- when a ticket becomes valid: its authtime if it has no start time
+-- when a ticket becomes valid: at its start time, or at its authtime if it has none
 abbrev pub start : Times → ℕ
 start t = if t.starttime == 0 then t.authtime else t.starttime
 
--- when a ticket ends, or that it has ended, or when it starts
+-- the cell of a ticket's end: when it ends, or that it has ended, or when it starts
 unfoldable pub end_cell : ℕ → Times → List ℕ
 end_cell now t =
     if t.endtime == 0 then codes "-"
@@ -31,11 +31,11 @@ end_cell now t =
     else (if nat_lt now (start t) then codes "starts " ++ ago now (start t)
     else ago now t.endtime))
 
--- the service of a ticket: its server, but where the realm of that is empty the server that the ticket names itself, if it does
+-- the service of a ticket: its credential's server; where that has no realm, the server that the ticket itself names
 unfoldable pub service : CredParts → Parts
 service c = if length c.server.realm == 0 then unwrap_or (ticket_server c.ticket) c.server else c.server
 
--- the cells of a ticket: its end, its last renewal, the type of its session key, how it is encrypted by its own bytes, and its service
+-- the cells of a ticket in show's table: its end, its last renewal, its session key's enctype, its own encryption, and its service
 abbrev pub ticket_row : ℕ → CredParts → List (List ℕ)
 ticket_row now c =
     end_cell now c.times ∷ time_cell now c.times.renew_till ∷ etype_cell c.key.enctype
@@ -52,7 +52,7 @@ abbrev pub cache_heading : List ℕ → Parts → ℕ → List ℕ
 cache_heading name principal count =
     name ++ (codes ": cache of " ++ (name_text principal ++ (codes ", " ++ (counted count (codes "ticket") ++ codes "\n"))))
 
--- what is shown of a cache whose file has this name, at a second
+-- what show prints of a cache at a second, with the name of its file
 abbrev pub cache_view : List ℕ → ℕ → CacheState → List ℕ
 cache_view name now k =
     let cs = tickets (placed_credentials k) in

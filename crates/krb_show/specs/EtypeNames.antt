@@ -4,11 +4,11 @@ use Rattle.std.specs.Fmt.{signed_decimal}
 use Rattle.krb_text.specs.Etype.{is_weak, short_name_of}
 use Rattle.krb_ccache.specs.declared.ticket.TicketEncryption.{TicketEncryption}
 
--- the short name of an enctype, or its number
+-- the short name of an enctype, or its number if it has none
 abbrev pub short_name : ℕ → List ℕ
 short_name n = unwrap_or (short_name_of n) (decimal n)
 
--- an enctype as a cell: `!` is behind a weak one
+-- an enctype in a cell, with `!` after a weak one
 unfoldable pub etype_cell : ℕ → List ℕ
 etype_cell n = short_name n ++ (if is_weak n then codes "!" else [])
 
@@ -17,7 +17,7 @@ abbrev pub wide_etype_cell : ℤ → List ℕ
 wide_etype_cell (pos n) = if nat_lt n (2 ^ 16) then etype_cell n else decimal n
 wide_etype_cell (negsuc n) = signed_decimal (negsuc n)
 
--- a kvno after an enctype, if there is one
+-- the kvno after an enctype in a cell, if there is one
 abbrev pub kvno_words : Option ℕ → List ℕ
 kvno_words None = []
 kvno_words (Some kvno) = codes " kvno " ++ decimal kvno

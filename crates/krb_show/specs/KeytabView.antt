@@ -21,11 +21,11 @@ use Rattle.krb_show.specs.EtypeNames.{etype_cell}
 
 -- ---- the lines
 
--- where a line is in the table: the number of its name's first entry, whether it is old, and its version
+-- the place of a line in show's table: the number of its name's first entry, whether its kvno is old, and the kvno
 abbrev pub LineKey : Type 0
 LineKey = ℕ × Bool × Reverse ℕ
 
--- the order of lines: names by their first entries, of a name the newest version first, and then versions falling
+-- the order of lines in show's table: by the first entries of names, of a name the newest kvno first, and then kvnos falling
 abbrev pub line_cmp : LineKey → LineKey → Ordering
 line_cmp k l = ordering_then (ordering_then (nat_cmp k.0 l.0) (bool_cmp k.1 l.1)) (nat_cmp l.2.0 k.2.0)
 
@@ -33,7 +33,7 @@ line_cmp k l = ordering_then (ordering_then (nat_cmp k.0 l.0) (bool_cmp k.1 l.1)
 abbrev pub line_key : List PlacedEntry → EntryParts → LineKey
 line_key all e = (unwrap_or (first_number e.principal all) 0, is_old all e, record { 0 = e.version })
 
--- entries of a name and version: their name, their latest time, and their enctypes in order
+-- the entries of a name and a kvno: the name, the latest time, and the enctypes in order
 pub record LineParts : Type 0 where
   pub principal : Parts
   pub added : ℕ
@@ -43,19 +43,19 @@ pub record LineParts : Type 0 where
 abbrev pub begun : Parts → LineParts
 begun principal = record { principal = principal; added = 0; etypes = [] }
 
--- a line with one more entry's time and enctype
+-- a line of show's table with the time and the enctype of one entry more
 abbrev pub grown : LineParts → ℕ → ℕ → LineParts
 grown l time etype = record { principal = l.principal; added = max l.added time; etypes = l.etypes ++ etype ∷ [] }
 
--- a line, or one that begins, with one more entry
+-- a line of show's table, or a new one, with one entry more
 abbrev pub with_entry : Option LineParts → EntryParts → LineParts
 with_entry line e = grown (unwrap_or line (begun e.principal)) e.timestamp e.enctype
 
--- the line of an entry with that entry, in its place among the lines so far
+-- the lines of show's table with one entry more, in its line
 abbrev pub put_entry : LineKey → EntryParts → List (LineKey × LineParts) → List (LineKey × LineParts)
 put_entry key e lines = insert_entry line_cmp lines key (with_entry (lookup (is_at (line_cmp key)) lines) e)
 
--- the lines so far with those of the entries that follow, in order; all entries say which are old
+-- the lines of show's table so far, and those of the entries that follow; which kvnos are old is by all entries
 abbrev pub lines_from : List PlacedEntry → List (LineKey × LineParts) → List PlacedEntry → List (LineKey × LineParts)
 lines_from all lines [] = lines
 lines_from all lines (x ∷ xs) = lines_from all (put_entry (line_key all x.1) x.1 lines) xs
@@ -66,15 +66,15 @@ lines_of xs = lines_from xs [] xs
 
 -- ---- the cells of a line
 
--- numbers with one more, unless it is among them
+-- numbers with one number more, unless it is already one of them
 abbrev pub with_number : List ℕ → ℕ → List ℕ
 with_number ns n = if list_any (λ m. m == n) ns then ns else ns ++ n ∷ []
 
--- each number once, where it comes first
+-- numbers, each once, in the order in which they first come
 unfoldable pub distinct : List ℕ → List ℕ
 distinct ns = fold with_number [] ns
 
--- enctypes with a blank before each, but before the first only if others are before them
+-- enctypes in a cell, with blanks between them
 abbrev pub spaced : Bool → List ℕ → List ℕ
 spaced first [] = []
 spaced first (n ∷ ns) = (if first then [] else codes " ") ++ (etype_cell n ++ spaced false ns)
@@ -83,13 +83,13 @@ spaced first (n ∷ ns) = (if first then [] else codes " ") ++ (etype_cell n ++ 
 abbrev pub more_types : ℕ → List ℕ
 more_types n = if n == 0 then [] else codes " and " ++ (decimal n ++ codes " more")
 
--- at most eight types, how many more there are, and whether they are those of an old version
+-- the enctypes of a line of show's table: at most eight, how many there are more, and `old` for an old kvno
 unfoldable pub keys_cell : Bool → List ℕ → List ℕ
 keys_cell is_old etypes =
     spaced true (take 8 (distinct etypes))
     ++ (more_types (length (distinct etypes) - 8) ++ (if is_old then codes " old" else []))
 
--- the cells of a line: its version, time and types, and the name at the first line of its versions, that of the newest
+-- the cells of a line of show's table: its kvno, time and enctypes, and the name at the line of its newest kvno
 abbrev pub key_row : ℕ → LineKey × LineParts → List (List ℕ)
 key_row now x =
     decimal x.0.2.0 ∷ time_cell now x.1.added ∷ keys_cell x.0.1 x.1.etypes
@@ -101,7 +101,7 @@ key_titles = codes "KVNO" ∷ codes "ADDED" ∷ codes "KEYS" ∷ codes "PRINCIPA
 
 -- ---- the whole
 
--- how many names lines have: each has one line of its newest version
+-- the number of names in show's table: each has one line of its newest kvno
 abbrev pub name_count : List (LineKey × LineParts) → ℕ
 name_count lines = length (filter (λ x. not x.0.1) lines)
 
@@ -110,7 +110,7 @@ abbrev pub keytab_heading : List ℕ → ℕ → ℕ → List ℕ
 keytab_heading name keys names =
     name ++ (codes ": keytab, " ++ (counted keys (codes "key") ++ (codes " of " ++ (counted names (codes "principal") ++ codes "\n"))))
 
--- what is shown of a keytab whose file has this name, at a second
+-- what show prints of a keytab at a second, with the name of its file
 abbrev pub keytab_view : List ℕ → ℕ → KeytabState → List ℕ
 keytab_view name now k =
     let lines = lines_of (placed_entries k) in

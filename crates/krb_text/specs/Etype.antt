@@ -8,19 +8,18 @@ use Rattle.std.specs.Result.{result_ok}
 use Rattle.krb_text.specs.Numbers.{number_in}
 use Rattle.hex.specs.Hex.{encode_lower, decode_of}
 
--- an enctype: its number, its names, the size of its keys in bytes if it has a name, and whether MIT calls it weak or
--- deprecated. The first name is MIT's, the second is short, and all are read.
+-- an enctype: its number, its names, the size of its keys in bytes if it has a name, and whether MIT calls it weak or deprecated. The first name is MIT's, the second is short, and all names are read.
 pub record Etype : Type 0 where
   pub number : ℕ
   pub names : List (List ℕ)
   pub key_size : Option ℕ
   pub is_weak : Bool
 
--- a weak enctype that has no name here
+-- a weak enctype that has no name here, as those of single DES
 abbrev pub weak_unnamed : ℕ → Etype
 weak_unnamed n = record { number = n; names = []; key_size = None; is_weak = true }
 
--- the enctypes that have a name here or are weak, rising
+-- the enctypes that have a name here or are weak, by their numbers
 unfoldable pub etype_table : List Etype
 etype_table =
     map weak_unnamed (1 ∷ 2 ∷ 3 ∷ 4 ∷ 6 ∷ 8 ∷ []) ++
@@ -35,7 +34,7 @@ etype_table =
     ∷ record { number = 26; names = codes "camellia256-cts-cmac" ∷ codes "camellia256" ∷ codes "camellia256-cts" ∷ []; key_size = Some 32; is_weak = false }
     ∷ [])
 
--- the enctype with a number
+-- the enctype with a number, if the table has it
 abbrev pub etype_numbered : ℕ → Option Etype
 etype_numbered n = find (λ e. e.number == n) etype_table
 
@@ -43,19 +42,19 @@ etype_numbered n = find (λ e. e.number == n) etype_table
 abbrev pub etype_names : ℕ → List (List ℕ)
 etype_names n = option_map_or (λ e. e.names) (etype_numbered n) []
 
--- the name that is printed of an enctype, if it has one
+-- the name of an enctype that is printed, MIT's, if the enctype has a name
 abbrev pub etype_name_of : ℕ → Option (List ℕ)
 etype_name_of n = slice_get (etype_names n) 0
 
--- the short name of an enctype, if it has one
+-- the short name of an enctype, if the enctype has a name
 abbrev pub short_name_of : ℕ → Option (List ℕ)
 short_name_of n = slice_get (etype_names n) 1
 
--- the key size of an enctype in bytes, if it has a name
+-- the size of an enctype's keys in bytes, if the enctype has a name
 abbrev pub key_size_of : ℕ → Option ℕ
 key_size_of n = option_and_then (λ e. e.key_size) (etype_numbered n)
 
--- the enctype is weak
+-- an enctype is weak or deprecated, as MIT calls it
 abbrev pub is_weak : ℕ → Bool
 is_weak n = option_map_or (λ e. e.is_weak) (etype_numbered n) false
 
@@ -63,47 +62,47 @@ is_weak n = option_map_or (λ e. e.is_weak) (etype_numbered n) false
 abbrev pub unnamed : ℕ → List ℕ
 unnamed n = codes "etype " ++ decimal n
 
--- the text of an enctype: its name, or `etype ` and its number in decimal
+-- the text of an enctype: MIT's name of it, or `etype ` and its number in decimal
 abbrev pub etype_text_of : ℕ → List ℕ
 etype_text_of n = unwrap_or (etype_name_of n) (unnamed n)
 
--- the text is a name of an enctype, in either case of ASCII letters
+-- a text is a name of an enctype, in either case of letters
 abbrev pub is_named : List ℕ → ℕ → Bool
 is_named text n = list_any (λ name. str_eq_ignore_ascii_case name text) (etype_names n)
 
--- the number of the enctype with a name
+-- the number of the enctype with this name
 abbrev pub number_named : List ℕ → Option ℕ
 number_named text = find (is_named text) (map (λ e. e.number) etype_table)
 
--- the first of two numbers, or the other if there is no first
+-- the first number, or if it is missing the second
 abbrev pub first_of : Option ℕ → Option ℕ → Option ℕ
 first_of (Some n) other = Some n
 first_of None other = other
 
--- the enctype that a text is: one of its names, or one to ten decimal digits with a value below 2 ^ 16
+-- the enctype that a text means: by a name, or by one to ten decimal digits of a number below 2 ^ 16
 unfoldable pub etype_in : List ℕ → Option ℕ
 etype_in text = first_of (number_named text) (number_in 16 text)
 
 -- ---- keys as hexadecimal text
 
--- `0x` and the bytes in order, in lower-case hexadecimal
+-- a key as text: `0x` and its bytes in hexadecimal, in lower case
 abbrev pub key_text_of : List ℕ → List ℕ
 key_text_of key = codes "0x" ++ encode_lower key
 
--- the size is the right one; any is right if none is given
+-- a key size is the right one, if one is known
 abbrev pub is_right : Option ℕ → ℕ → Bool
 is_right None size = true
 is_right (Some right) size = size == right
 
--- a key of the enctype may have that many bytes: if the table names the enctype, it must be the size in the table
+-- a key of an enctype may have this size: that of the table, or any if the table has no name for the enctype
 abbrev pub is_key_size : ℕ → ℕ → Bool
 is_key_size etype size = is_right (key_size_of etype) size
 
--- the bytes, if a key of the enctype may have that many
+-- the bytes of a key, if a key of the enctype may have this size
 abbrev pub sized : ℕ → Option (List ℕ) → Option (List ℕ)
 sized etype None = None
 sized etype (Some key) = if is_key_size etype (length key) then Some key else None
 
--- the key of an enctype that an even number of hexadecimal digits encodes, in either case
+-- the key of an enctype that hexadecimal digits in either case spell, if it has the enctype's size
 abbrev pub key_in : ℕ → List ℕ → Option (List ℕ)
 key_in etype digits = sized etype (result_ok (decode_of digits))

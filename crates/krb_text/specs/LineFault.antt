@@ -7,7 +7,7 @@ use Rattle.krb_text.specs.declared.line_fault.LineRefusal.TheVariants.{Fault, No
 use Rattle.krb_text.specs.declared.line_fault.ScriptRefusal.{ScriptRefusal}
 use Rattle.krb_text.specs.declared.line_fault.ScriptRefusal.TheVariants as script
 
--- the number that is printed for a fault
+-- the number that is printed for a fault of a line
 abbrev pub line_fault_number : LineFault → ℕ
 line_fault_number UnknownWord = 1
 line_fault_number WordCount = 2

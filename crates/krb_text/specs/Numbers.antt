@@ -9,11 +9,11 @@ use Rattle.std.specs.Str.Parse.{digits_value}
 abbrev pub right_in_4 : ℕ → List ℕ
 right_in_4 n = replicate (4 - length (decimal n)) 32 ++ decimal n
 
--- one to ten decimal digits
+-- a text is one to ten decimal digits
 abbrev pub is_numeral : List ℕ → Bool
 is_numeral text = nat_lt 0 (length text) && (nat_le (length text) 10 && list_all is_ascii_digit text)
 
--- the value of one to ten decimal digits, if it fits that many bits
+-- the number that one to ten decimal digits spell, if it is below 2 ^ bits
 abbrev pub number_in : ℕ → List ℕ → Option ℕ
 number_in bits text =
     if is_numeral text && nat_lt (digits_value 10 text) (2 ^ bits) then Some (digits_value 10 text) else None
@@ -40,6 +40,6 @@ abbrev pub seconds_by : List ℕ → Option ℕ → Option ℕ
 seconds_by text None = number_in 32 text
 seconds_by text (Some unit) = option_and_then (λ n. in_32 (n * unit)) (number_in 32 (before_last text))
 
--- a number of seconds, or of the unit whose letter follows it, below 2 ^ 32
+-- the seconds that a text means: a number, and perhaps a unit, s, m, h or d
 unfoldable pub seconds_in : List ℕ → Option ℕ
 seconds_in text = seconds_by text (seconds_of_unit (get_or text (length text - 1) 0))

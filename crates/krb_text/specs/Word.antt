@@ -9,25 +9,25 @@ use Rattle.krb_text.specs.Numbers.{number_in}
 use Rattle.krb_text.specs.Etype.{etype_in, key_in}
 use Rattle.std.specs.List.{slice_split, join_with_byte}
 
--- the 32-bit number that a word is
+-- the number of 32 bits that a word spells
 abbrev pub number_word : List ℕ → Result ℕ LineFault
 number_word word = ok_or (number_in 32 word) BadNumber
 
--- the enctype that a word is, by name or by number
+-- the enctype that a word means, by name or by number
 abbrev pub etype_word : List ℕ → Result ℕ LineFault
 etype_word word = ok_or (etype_in word) BadEtype
 
--- the key of an enctype that a word is in hexadecimal
+-- the key of an enctype that a word spells in hexadecimal
 abbrev pub key_word : ℕ → List ℕ → Result (List ℕ) LineFault
 key_word etype word = ok_or (key_in etype word) BadKey
 
--- the principal name that a word is, which must include its realm
+-- the principal name that a word spells, with its realm
 abbrev pub name_word : List ℕ → Result Parts LineFault
 name_word word = ok_or (result_ok (name_of word None)) BadName
 
 -- ---- splitting a text at each occurrence of a byte
 
--- a text split at each such byte: one more piece than there are such bytes
+-- a text split at each byte `at`
 abbrev pub pieces : ℕ → List ℕ → List (List ℕ)
 pieces at text = slice_split (λ b. b == at) text
 

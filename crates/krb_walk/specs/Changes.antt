@@ -4,7 +4,7 @@ use Rattle.krb_walk.specs.Store.{Cell, Store, end_from, end_of}
 use Rattle.krb_walk.specs.Ranks.{Rewrites}
 use Rattle.krb_walk.specs.ReplyContent.{ReplyContent, Placed, Gone, Rewritten}
 
--- one cell, at a place, becomes another; all else is unchanged
+-- a store went from `old` to `new`: the cell at a place became another, and all else is unchanged
 pub record OneCell (old new : Store) (p : ℕ) (was is : Cell) : Type 0 where
   pub before : List Cell
   pub after : List Cell
@@ -14,13 +14,13 @@ pub record OneCell (old new : Store) (p : ℕ) (was is : Cell) : Type 0 where
   pub first : new.first ≡ old.first
   pub fault : new.fault ≡ old.fault
 
--- a free cell becomes a live one of its width
+-- a store went from `old` to `new`: a free cell at a place became a live one of its width
 pub record Fills (old new : Store) (p : ℕ) : Type 0 where
   pub width : ℕ
   pub bytes : List ℕ
   pub cell : OneCell old new p (record { width = width; live = None }) (record { width = width; live = Some bytes })
 
--- a live cell becomes a free one of its width
+-- a store went from `old` to `new`: a live cell at a place became a free one of its width
 pub record Frees (old new : Store) (p : ℕ) : Type 0 where
   pub width : ℕ
   pub bytes : List ℕ
@@ -36,7 +36,7 @@ pub record Appends (old new : Store) (p : ℕ) : Type 0 where
   pub first : new.first ≡ old.first
   pub fault : new.fault ≡ old.fault
 
--- an accepted addition: the store has no fault, and a free cell takes the record, or it is appended
+-- a store without a fault went from `old` to `new` by an addition: a free cell took the record, or the record was appended
 pub record Puts (old new : Store) (p : ℕ) : Type 0 where
   pub whole : old.fault ≡ None
   pub how : Fills old new p ⊎ Appends old new p
@@ -46,7 +46,7 @@ pub record Cuts (old new : Store) (p : ℕ) : Type 0 where
   pub whole : old.fault ≡ None
   pub how : Frees old new p
 
--- a store changes as the reply reports: by one cell, or it is rewritten, or it is unchanged
+-- a store went from `old` to `new` as a reply says: by one cell, by a rewrite, or not at all
 abbrev pub Changes : ReplyContent → Store → Store → Type 0
 Changes (Placed p) old new = Puts old new p
 Changes (Gone p) old new = Cuts old new p

@@ -47,12 +47,12 @@ abbrev pub end_reply : ℕ → ℕ → Option FaultKind → ReplyContent
 end_reply w end None = Ended w end
 end_reply w end (Some kind) = Faulted w (record { place = end; kind = kind })
 
--- the reply to a step that finds a live cell, or none
+-- the reply to a step that came to a record, or to none
 abbrev pub stop_reply : Store → ℕ → Option Record → ReplyContent
 stop_reply s w (Some r) = Gave w r.place r.next r.bytes
 stop_reply s w None = end_reply w (end_of s) s.fault
 
--- the cursor after that step
+-- the cursor after a step that came to a record, or to none
 abbrev pub stop_cursor : ℕ → Option Record → ℕ
 stop_cursor end (Some r) = r.next
 stop_cursor end None = end
@@ -89,7 +89,7 @@ abbrev pub cut_reply : {S : Type 0} → ℕ → Result S Code → ReplyContent
 cut_reply p (Ok new) = Gone p
 cut_reply p (Err code) = Refused code
 
--- the store after Cut, or Rewrite
+-- a store after a removal or a rewrite: the new one, or the old one if it was refused
 abbrev pub cut_store : {S : Type 0} → S → Result S Code → S
 cut_store old (Ok new) = new
 cut_store old (Err code) = old
@@ -99,7 +99,7 @@ abbrev pub rewrite_reply : {S : Type 0} → (S → Store) → Result S Code → 
 rewrite_reply seen (Ok new) = Rewritten (end_of (seen new))
 rewrite_reply seen (Err code) = Refused code
 
--- the cursors after it: each is carried
+-- the cursors after a rewrite: each is carried to its new place
 abbrev pub rewrite_cursors : {S : Type 0} → (S → Store) → S → List ℕ → Result S Code → List ℕ
 rewrite_cursors seen old cursors (Ok new) = map (carry (seen old) (seen new)) cursors
 rewrite_cursors seen old cursors (Err code) = cursors

@@ -12,22 +12,22 @@ use Rattle.krb_walk.specs.Stops.{records_from}
 
 -- ---- how a walk's cursor moves
 
--- how a cursor may move: forward unless at a rewrite; as a step of its walk replies; else only as a rewrite carries it
+-- the cursor of a walk may move so at an event: forward unless at a rewrite, as a step of its walk replies, and else only as a rewrite carries it
 pub record CursorMayGo (x : WalkEvent) (c d : ℕ) : Type 0 where
   pub forward : is_rewritten x.reply ≡ false → c ≤ d
   pub moves : x.stepped ≡ true → AnswersStep x.before x.walk c x.reply d
   pub stays : x.stepped ≡ false → d ≡ carry_by x.reply x.before x.after c
 
--- the cursor at an event: it is a place, and moves as it may
+-- the cursor of a walk at an event is a place, and moves as it may
 pub record CursorIsSound (x : WalkEvent) (c : ℕ) : Type 0 where
   pub place : IsPlace x.before c
   pub to : IsSomeAnd x.to (CursorMayGo x c)
 
--- the place of a record after an event, if it is alive then
+-- the place of a record after an event, if the record is alive then
 abbrev pub next_place_of : RecordName → WalkEvent → Option ℕ
 next_place_of r x = place_among r (names_after x.number x.reply x.before x.after x.names) (live_places x.after)
 
--- at an event that is no step of the walk, a record that lives on is ahead of the cursor after it iff it was before
+-- at an event that is no step of the walk, a record that lives on stays ahead of the cursor, or behind it
 abbrev pub KeepsSide : RecordName → WalkEvent → Type 0
 KeepsSide r x = (c d p q : ℕ) → x.stepped ≡ false → x.from ≡ Some c → x.to ≡ Some d → place_of r x ≡ Some p → next_place_of r x ≡ Some q → (c ≤ p) ↔ (d ≤ q)
 
@@ -46,8 +46,7 @@ FewStepsGive t = (earlier : Track) (x : WalkEvent) (steps later : Track) (c : �
 
 -- ---- the properties of each walk
 
--- over a track that ends with a store: the walk is given what is due to it, each record as it is due, and its cursor is
--- sound. The quoted words above a field are those of the headline that it proves
+-- a walk over a track that ends with a store is given what is due to it, each record as it is due, and its cursor is sound. The quoted words above a field are those of the headline that it proves
 pub record IsFair (t : Track) (last : Store) : Type 0 where
   -- "each walk gives exactly the records alive when its cursor passes their place": at each step, those it passes
   pub given_is_due : given_over t ≡ due_by_steps t

@@ -10,7 +10,7 @@ use Rattle.krb_walk.specs.Events.{SessionState, reply_to, after}
 use Rattle.krb_walk.specs.declared.stop.Stop.{Stop}
 use Rattle.krb_walk.specs.declared.stop.Stop.TheVariants.{Live, End, Fault as AtFault}
 
--- an event with its reply, between two states
+-- a moment of a history: an event with its reply, and the states before and after it
 pub record Moment (S I : Type 0) : Type 0 where
   pub before : SessionState S
   pub event : Event I
@@ -35,11 +35,11 @@ abbrev pub state_after : {S I : Type 0} → Rules S I → SessionState S → Lis
 state_after r s [] = s
 state_after r s (e ∷ es) = state_after r (after r s e) es
 
--- a moment at which the store changes as its reply allows
+-- at a moment the store changes as the reply allows
 abbrev pub IsLawful : {S I : Type 0} → Rules S I → Moment S I → Type 0
 IsLawful r m = Changes m.reply (r.seen m.before.store) (r.seen m.after.store)
 
--- a history in which it does so at each moment
+-- at each moment of a history the store changes as the reply allows
 abbrev pub AllLawful : {S I : Type 0} → Rules S I → List (Moment S I) → Type 0
 AllLawful r [] = Unit {0}
 AllLawful r (m ∷ ms) = IsLawful r m × AllLawful r ms
@@ -54,7 +54,7 @@ pub record IsReady {S I : Type 0} (r : Rules S I) (s : SessionState S) : Type 0 
   pub sound : IsSound (r.seen s.store)
   pub cursors : (w c : ℕ) → slice_get s.cursors w ≡ Some c → IsPlace (r.seen s.store) c
 
--- a history that begins in a ready state, and changes the store as its replies allow
+-- a history begins in a ready state, and changes the store as its replies allow
 pub record IsRun {S I : Type 0} (r : Rules S I) (s : SessionState S) (events : List (Event I)) : Type 0 where
   pub ready : IsReady r s
   pub lawful : AllLawful r (history r s events)
@@ -63,7 +63,7 @@ pub record IsRun {S I : Type 0} (r : Rules S I) (s : SessionState S) (events : L
 abbrev pub last_store : {S I : Type 0} → Rules S I → SessionState S → List (Event I) → Store
 last_store r s events = r.seen (state_after r s events).store
 
--- a row: the number of an event, and the record that it gives, as it was just before
+-- a row: the number of an event, and the record that it gives, as the record was just before
 pub record Row : Type 0 where
   pub event : ℕ
   pub stood : Record
@@ -78,7 +78,7 @@ abbrev pub given_from : {S I : Type 0} → ℕ → ℕ → List (Moment S I) →
 given_from n w [] = []
 given_from n w (m ∷ ms) = rows_of_reply w n m.reply ++ given_from (suc n) w ms
 
--- what a walk is given: a row for each reply Gave to it, the events numbered from 1
+-- what a walk is given by a history: a row for each reply that gives it a record, the events numbered from 1
 abbrev pub given : {S I : Type 0} → ℕ → List (Moment S I) → List Row
 given w h = given_from 1 w h
 

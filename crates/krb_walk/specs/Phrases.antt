@@ -10,14 +10,14 @@ use Rattle.krb_walk.specs.declared.refusal.Refusal.TheVariants.{Code as ByCode, 
 
 -- ---- the numbers that are printed for faults and codes
 
--- the number of a fault
+-- the number that is printed for a kind of fault: the file ends within a length, a record or hole passes the file's end, a record without an entry, or bytes that are no credential
 abbrev pub fault_number : FaultKind → ℕ
 fault_number CutLength = 1
 fault_number Overrun = 2
 fault_number BadEntry = 3
 fault_number BadCredential = 4
 
--- the number of a code
+-- the number that is printed for a refusal
 abbrev pub code_number : Code → ℕ
 code_number Damaged = 1
 code_number TooLong = 2
@@ -33,7 +33,7 @@ code_number Marked = 11
 
 -- ---- the phrases of faults and codes
 
--- the phrase of a fault
+-- a kind of fault in words
 abbrev pub fault_phrase : FaultKind → List ℕ
 fault_phrase CutLength = codes "the file ends within a length"
 fault_phrase Overrun = codes "a record or a hole is longer than the rest of the file"

@@ -11,7 +11,7 @@ use Rattle.krb_walk.specs.Due.{due_over, due_by_steps}
 use Rattle.krb_walk.specs.Fair.{IsFair}
 use Rattle.krb_walk.specs.Damage.{RefusesChanges}
 
--- a run of events: the replies and the state are those of the history, and every walk is given what is due to it
+-- events were run over a session, which went from `old` to `new`: the replies are those of the history, and every walk is given what is due to it
 pub record Ran {S I : Type 0} (r : Rules S I) (old new : SessionState S) (events : List (Event I)) (old_replies new_replies : List ReplyContent) : Type 0 where
   pub replies_are : new_replies ≡ old_replies ++ replies (history r old events)
   pub state : new ≡ state_after r old events

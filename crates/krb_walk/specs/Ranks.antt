@@ -11,17 +11,17 @@ live_places s = map (λ r. r.place) (records s)
 abbrev pub rank : Store → ℕ → ℕ
 rank s p = length (filter (λ q. nat_lt q p) (live_places s))
 
--- the element of a list at an index, or `end` if the list is not that long
+-- the element of a list at an index, or `end` if the list is shorter
 abbrev pub nth_or : ℕ → List ℕ → ℕ → ℕ
 nth_or end [] k = end
 nth_or end (p ∷ ps) zero = p
 nth_or end (p ∷ ps) (suc k) = nth_or end ps k
 
--- where a rewrite carries a cursor: to the new place of the first live cell at or after it, by rank, or to the new end
+-- the place to which a rewrite carries a cursor: that of the first live cell at or after it, by rank, or the new end
 abbrev pub carry : Store → Store → ℕ → ℕ
 carry old new c = nth_or (end_of new) (live_places new) (rank old c)
 
--- a store is rewritten: it has no fault before or after, as many live cells as before, and no free ones
+-- a store went from `old` to `new` by a rewrite: no fault, as many live cells as before, and no free ones
 pub record Rewrites (old new : Store) : Type 0 where
   pub whole : old.fault ≡ None
   pub fault : new.fault ≡ None

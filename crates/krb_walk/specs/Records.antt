@@ -13,7 +13,7 @@ use Rattle.krb_walk.specs.Due.{rows_at_event}
 abbrev pub rows_at : ℕ → List Row → List Row
 rows_at p rows = filter (λ row. row.stood.place == p) rows
 
--- exactly one row
+-- rows are exactly one row
 pub record OneRow (rows : List Row) : Type 0 where
   pub row : Row
   pub only : rows ≡ row ∷ []
@@ -25,7 +25,7 @@ begins (x ∷ xs) = x.from
 
 -- ---- a record is at the live cell of its rank
 
--- two names are the same
+-- two names of records are the same
 abbrev pub is_name : RecordName → RecordName → Bool
 is_name r x = (r.place == x.place) && (r.birth == x.birth)
 
@@ -34,21 +34,21 @@ abbrev pub place_among : RecordName → List RecordName → List ℕ → Option 
 place_among r (x ∷ names) (p ∷ ps) = cond (is_name r x) (Some p) (place_among r names ps)
 place_among r names ps = None
 
--- the place of a record before an event, if it is alive: that of the live cell of its rank
+-- the place of a record before an event, if the record is alive: that of the live cell of its rank
 abbrev pub place_of : RecordName → WalkEvent → Option ℕ
 place_of r x = place_among r x.names (live_places x.before)
 
--- there is a record alive at a place
+-- a record is alive at a place before an event
 pub record IsNamed (x : WalkEvent) (p : ℕ) : Type 0 where
   pub name : RecordName
   pub is_there : place_of name x ≡ Some p
 
--- the rows at a place, if there is one
+-- the rows at a place, or none without a place
 abbrev pub rows_at_some : Option ℕ → List Row → List Row
 rows_at_some None rows = []
 rows_at_some (Some p) rows = rows_at p rows
 
--- the rows of a record at an event: those at its place
+-- the rows that give a record at an event
 abbrev pub rows_here : RecordName → WalkEvent → List Row
 rows_here r x = rows_at_some (place_of r x) (rows_at_event x)
 
@@ -56,20 +56,20 @@ rows_here r x = rows_at_some (place_of r x) (rows_at_event x)
 abbrev pub rows_of : RecordName → Track → List Row
 rows_of r t = flat_map (rows_here r) t
 
--- there is a place, and a cursor goes past it
+-- a cursor goes past a place, if there is one
 abbrev pub goes_past_some : Option ℕ → Option ℕ → Option ℕ → Bool
 goes_past_some None c d = false
 goes_past_some (Some p) c d = goes_past p c d
 
--- a step of the walk passes the record at its place
+-- a step of the walk passes a record
 abbrev pub passes_record : RecordName → WalkEvent → Bool
 passes_record r x = x.stepped && goes_past_some (place_of r x) x.from x.to
 
--- the turn of a record: the step that passes it
+-- the turn of a record: the step of the walk that passes it
 abbrev pub turn_of : RecordName → Track → Option WalkEvent
 turn_of r t = find (passes_record r) t
 
--- a record has a turn, at which it is alive
+-- a record has a turn, and is alive at it
 pub record HasTurn (r : RecordName) (t : Track) : Type 0 where
   pub at : WalkEvent
   pub is : turn_of r t ≡ Some at
@@ -96,7 +96,7 @@ pub record IsAliveUntilDone (r : RecordName) (t : Track) : Type 0 where
   pub alive_last : IsSome (place_of r done)
   pub completed : completes done.walk done.reply ≡ true
 
--- a record is removed before a step passed it
+-- a record was removed before a step passed it
 pub record IsCutBefore (r : RecordName) (t : Track) : Type 0 where
   pub earlier : Track
   pub cut : WalkEvent
@@ -117,7 +117,7 @@ pub record IsAddedAt (r : RecordName) (c : ℕ) (t : Track) : Type 0 where
   pub born : r.birth ≡ put.number
   pub cursor : put.from ≡ Some c
 
--- a step passes a record after another was given, and both are alive just before that step
+-- a step passes the second record after the first was given, and both are alive just before the step
 pub record ComeInTurn (first second : RecordName) (t : Track) : Type 0 where
   pub earlier : Track
   pub at : WalkEvent
@@ -130,7 +130,7 @@ pub record ComeInTurn (first second : RecordName) (t : Track) : Type 0 where
   pub first_is_at : place_of first at ≡ Some first_place
   pub second_is_at : place_of second at ≡ Some second_place
 
--- each record comes as it is due, over rewrites too
+-- each record is given to a walk as it is due, over rewrites too
 pub record EachComesAsDue (t : Track) : Type 0 where
   -- "each once"
   pub at_most_once : (r : RecordName) → length (rows_of r t) ≤ 1

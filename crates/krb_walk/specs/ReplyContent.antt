@@ -34,7 +34,7 @@ is_step_reply w (Ended v next) = v == w
 is_step_reply w (Faulted v fault) = v == w
 is_step_reply w other = false
 
--- a reply to a step of walk w that no record is left: the end or the fault
+-- a reply to a step of walk w says that no record is left: the end, or the fault
 abbrev pub completes : ℕ → ReplyContent → Bool
 completes w (Ended v next) = v == w
 completes w (Faulted v fault) = v == w

@@ -7,54 +7,54 @@ use Rattle.krb_walk.specs.declared.fault.Fault.{Fault}
 use Rattle.krb_walk.specs.declared.stop.Stop.{Stop}
 use Rattle.krb_walk.specs.declared.stop.Stop.TheVariants.{Live, End, Fault as AtFault}
 
--- a cell takes up a width of places, and has bytes if it is live; one without is free
+-- a cell of a store, a keytab's or a cache's: how many places it takes, and its bytes if it is live; a free cell, as a hole, has none
 pub record Cell : Type 0 where
   pub width : ℕ
   pub live : Option (List ℕ)
 
--- a first place, the cells from there on, and the kind of the fault after them, if there is one
+-- a keytab or a cache as cells: the place of the first, the cells, and the kind of the fault after the last, if the file is damaged
 pub record Store : Type 0 where
   pub first : ℕ
   pub cells : List Cell
   pub fault : Option FaultKind
 
--- a cell and its place
+-- a cell of a store with its place
 pub record Standing : Type 0 where
   pub place : ℕ
   pub cell : Cell
 
--- the cells with their places, the first at `at`
+-- cells with their places, if the first is at the place `at`
 abbrev pub standing : ℕ → List Cell → List Standing
 standing at [] = []
 standing at (c ∷ cs) = record { place = at; cell = c } ∷ standing (at + c.width) cs
 
--- the places of the cells, live or free, in order
+-- the places of a store's cells, live or free, in order
 abbrev pub places : Store → List ℕ
 places s = map (λ x. x.place) (standing s.first s.cells)
 
--- the place after cells that begin at a place
+-- the place after the last of cells, if the first is at the place `at`
 abbrev pub end_from : ℕ → List Cell → ℕ
 end_from at [] = at
 end_from at (c ∷ cs) = end_from (at + c.width) cs
 
--- the end place
+-- the place after a store's last cell
 abbrev pub end_of : Store → ℕ
 end_of s = end_from s.first s.cells
 
--- a number is the place of one of the cells that begin at a place, or the place after them
+-- a number is the place of one of the cells, if the first is at the place `at`, or the place after the last
 abbrev pub is_place_from : ℕ → List Cell → ℕ → Bool
 is_place_from at [] p = at == p
 is_place_from at (c ∷ cs) p = (at == p) || is_place_from (at + c.width) cs p
 
--- a number is the place of a cell, live or free, or the end place
+-- a number is the place of a cell of a store, live or free, or the place after the last
 abbrev pub is_place : Store → ℕ → Bool
 is_place s p = is_place_from s.first s.cells p
 
--- that a number is a place, as a fact
+-- a number is a place in a store
 abbrev pub IsPlace : Store → ℕ → Type 0
 IsPlace s p = is_place s p ≡ true
 
--- the cell at a place, with its place
+-- the cell of a store at a place
 abbrev pub cell_at : Store → ℕ → Option Standing
 cell_at s p = find (λ x. x.place == p) (standing s.first s.cells)
 
@@ -62,22 +62,22 @@ cell_at s p = find (λ x. x.place == p) (standing s.first s.cells)
 abbrev pub size_at : Store → ℕ → Option ℕ
 size_at s p = option_map (λ x. x.cell.width) (cell_at s p)
 
--- a record, that is a live cell: its place, the place after it, its bytes
+-- a record of a store, which is a live cell: its place, the place after it, and its bytes
 pub record Record : Type 0 where
   pub place : ℕ
   pub next : ℕ
   pub bytes : List ℕ
 
--- the record of a cell that has bytes
+-- the record of a cell with its bytes
 abbrev pub record_with : Standing → Option (List ℕ) → Option Record
 record_with x None = None
 record_with x (Some bytes) = Some (record { place = x.place; next = x.place + x.cell.width; bytes = bytes })
 
--- the record of a cell, if it is live
+-- the record of a cell, if the cell is live
 abbrev pub record_of : Standing → Option Record
 record_of x = record_with x x.cell.live
 
--- all records, in order
+-- the records of a store, in file order
 abbrev pub records : Store → List Record
 records s = filter_map record_of (standing s.first s.cells)
 
@@ -86,7 +86,7 @@ abbrev pub record_of_some : Option Standing → Option Record
 record_of_some None = None
 record_of_some (Some x) = record_of x
 
--- the record at a place, if there is one
+-- the record of a store at a place, if one begins there
 abbrev pub live_at : Store → ℕ → Option Record
 live_at s p = record_of_some (cell_at s p)
 
@@ -95,11 +95,11 @@ abbrev pub bytes_of_some : Option Record → Option (List ℕ)
 bytes_of_some None = None
 bytes_of_some (Some r) = Some r.bytes
 
--- the bytes of the record at a place
+-- the bytes of the record of a store at a place, if one begins there
 abbrev pub live_bytes : Store → ℕ → Option (List ℕ)
 live_bytes s p = bytes_of_some (live_at s p)
 
--- the first record at or after a place
+-- the first record of a store at or after a place
 abbrev pub next_live : Store → ℕ → Option Record
 next_live s p = record_of_some (find (λ x. nat_le p x.place && is_some x.cell.live) (standing s.first s.cells))
 
@@ -108,12 +108,12 @@ abbrev pub end_stop : ℕ → Option FaultKind → Stop
 end_stop end None = End end
 end_stop end (Some kind) = AtFault (record { place = end; kind = kind })
 
--- the fault at a place, if there is one
+-- a fault of a kind at a place, if there is one
 abbrev pub fault_from : ℕ → Option FaultKind → Option Fault
 fault_from end None = None
 fault_from end (Some kind) = Some (record { place = end; kind = kind })
 
--- the fault of a store, at its end place, if there is one
+-- the fault of a store, after its last cell, if the file is damaged
 abbrev pub fault_of : Store → Option Fault
 fault_of s = fault_from (end_of s) s.fault
 
@@ -126,6 +126,6 @@ stop_of s None = end_stop (end_of s) s.fault
 abbrev pub stop_at : Store → ℕ → Stop
 stop_at s p = stop_of s (next_live s p)
 
--- each cell takes up a place
+-- each cell of a store takes up a place or more
 abbrev pub IsSound : Store → Type 0
 IsSound s = AllByRecursion (λ c. 0 < c.width) s.cells

@@ -11,7 +11,7 @@ use Rattle.krb_walk.specs.Rules.{Rules}
 use Rattle.krb_walk.specs.Events.{SessionState}
 use Rattle.krb_walk.specs.History.{Moment, history, steps_walk}
 
--- the name of a record: the place where it was added, and its birth, the number of the event that added it, or 0
+-- the name of a record: the place where it was added, and the number of the event that added it, or 0
 pub record RecordName : Type 0 where
   pub place : ℕ
   pub birth : ℕ
@@ -20,13 +20,13 @@ pub record RecordName : Type 0 where
 abbrev pub first_names : Store → List RecordName
 first_names s = map (λ p. record { place = p; birth = 0 }) (live_places s)
 
--- the names after event n: an addition inserts one at the rank of its cell, a removal removes that of its cell
+-- the names of the live records after event n: an addition inserts a name at the rank of its cell, a removal takes the name of its cell away
 abbrev pub names_after : ℕ → ReplyContent → Store → Store → List RecordName → List RecordName
 names_after n (Placed p) old new names = insert names (rank new p) (record { place = p; birth = n })
 names_after n (Gone p) old new names = remove names (rank old p)
 names_after n other old new names = names
 
--- one event, as a walk sees it
+-- an event as a walk sees it: its number, whether it is a step of the walk, the stores and cursors before and after, and its reply
 pub record WalkEvent : Type 0 where
   pub number : ℕ
   pub walk : ℕ
@@ -41,11 +41,11 @@ pub record WalkEvent : Type 0 where
   pub names : List RecordName
   pub reply : ReplyContent
 
--- the events as a walk sees them, in order
+-- events as a walk sees them, in order
 abbrev pub Track : Type 0
 Track = List WalkEvent
 
--- the track of a walk over a history whose first event has number n; until the walk is started its cursor counts as c
+-- the track of a walk over a history whose first event has number n; before the walk is started its cursor is c
 abbrev pub track_on : {S I : Type 0} → ℕ → List RecordName → Option ℕ → Rules S I → ℕ → List (Moment S I) → Track
 track_on n names c r w [] = []
 track_on n names c r w (m ∷ ms) =
@@ -70,7 +70,7 @@ track r s w h = track_on 1 (first_names (r.seen s.store)) None r w h
 abbrev pub track_of : {S I : Type 0} → Rules S I → SessionState S → List (Event I) → ℕ → Track
 track_of r s events w = track r s w (history r s events)
 
--- a cursor goes from at or before a place to after it
+-- a cursor goes from at or before a place to after the place
 abbrev pub goes_past : ℕ → Option ℕ → Option ℕ → Bool
 goes_past p (Some c) (Some d) = nat_le c p && nat_lt p d
 goes_past p c d = false
@@ -89,7 +89,7 @@ abbrev pub last_cursor : Option ℕ → Track → Option ℕ
 last_cursor c [] = c
 last_cursor c (x ∷ xs) = last_cursor x.to xs
 
--- no event rewrites the store, so places stay
+-- no event of a track rewrites the store, so places stay
 abbrev pub PlacesStay : Track → Type 0
 PlacesStay t = AllByRecursion (λ x. is_rewritten x.reply ≡ false) t
 
@@ -102,7 +102,7 @@ AnswersStep s w c (Ended v next) to = (v ≡ w) × (next_live s c ≡ None) × (
 AnswersStep s w c (Faulted v fault) to = (v ≡ w) × (next_live s c ≡ None) × (fault_of s ≡ Some fault) × (to ≡ end_of s)
 AnswersStep s w c other to = ⊥
 
--- where a cursor is after an event that is no step of its walk: a rewrite carries it, any other leaves it
+-- the cursor after an event that is no step of its walk: a rewrite carries the cursor, any other event leaves it
 abbrev pub carry_by : ReplyContent → Store → Store → ℕ → ℕ
 carry_by (Rewritten p) old new c = carry old new c
 carry_by other old new c = c
