@@ -5,31 +5,29 @@ import textwrap
 from collections import Counter
 from functools import cache
 
-from reading.cases import CASES, CLOSED, FRAME, Contract, View
+from reading.cases import CARDS, CLOSED, FRAME, Contract, View
 from reading.sources import OWN, Place
 from reading.worked import Runs
 
 LINES, COLUMNS, BRIEF = 550, 100, 70  # the most lines and columns of a card, and the lines that comments have of these
+BY_COMMENTS = "By their comments:"
+PRINTED = re.compile(r"[:→] (?:List ℕ|Page|Effect|CommandPlan)\n")  # the end of the type of what is printed
 PARAMETER = re.compile(r"\(([\w' ]+) : ((?:[^()]|\((?:[^()]|\([^()]*\))*\))*)\)")
 # What says nothing to a reader: parameters that are types, the files' trait, and words of the prover.
 SILENT = re.compile(r"\{[^{}]* : Type 0\} (?:→ )?| ?\{\w+ = [^{}]*\}| \{0\}|\(trait : Ghosts \w+\) ?|\bpub |"
                     r"(?<=[\w)}]) trait\b(?!\.)| F R W E\b| : Type 0\b")
 LEGEND = """\
-How to read. `f x y` applies f to x and y, `λ x. e` is a function of x, `f (A x) = e` is for what A makes.
-`≡` is equality, `×` and, `⊎` or, `(x : T) ×` there is an x; `ℕ` numbers; `[]`, `x ∷ xs`, `xs ++ ys` lists,
-bytes too; `codes "t"` the bytes of a text; `x.0`, `x.1` the parts of a pair; `None`, `Some x` nothing or x;
-`Ok x`, `Err e` x or why not; `.old`, `.new` a variable before and after, `.now`, `.entry` what it holds.
-A plan `holds` a file, `opens` it and goes on with what that gave, then `Ends` with what it prints
-(`Displays`), saves and prints (`Saves`), or reports (`Fails`). `trait.file f` are the bytes of each name in the
-files f; f is honest (`trait.is_honest`) if loads and saves do what they say, and no other program writes.
-A definition is before those that it names, and in brackets is where it is from; `e.g.` has a value of it, or
-a run of the tests that prints a text of it. `ending_words`, `mistake_words` are what --explain says (krbfile(1)).
+How to read. `f x y` applies f to x and y, `λ x. e` is a function of x; `f (A x) = e` is for what A
+makes. `≡` is equality, `×` and, `⊎` or, `(x : T) ×` there is an x; `ℕ` numbers, `nat_lt` less than;
+`[]`, `x ∷ xs`, `xs ++ ys` lists, so bytes; `codes "t"` the bytes of a text; `x.0`, `x.1` the parts
+of a pair; `None`, `Some x` nothing or x; `Ok x`, `Err e` x or why not; `x ← e` takes x out of `Some
+x`, and else all is `None`. `.old`, `.new`: a variable before and after; `.now`, `.entry`: what it
+holds. A plan `holds` a file, `opens` it and goes on with what that gave, then `Ends` with what it
+prints (`Displays`), saves and prints (`Saves`) or reports (`Fails`). A definition is before those
+that it names; a name after `cells.` is krb_cells' own. In brackets: where it is from. `e.g.`: a
+value, or a run of the tests and a line that it prints by the definition. `ending_words` and
+`mistake_words` are what --explain says, as krbfile(1) describes.
 """
-
-
-def prose(text: str) -> list[str]:
-    """Returns a paragraph as lines of a card."""
-    return [*textwrap.wrap(text, COLUMNS, break_on_hyphens=False), ""]
 
 
 @cache
@@ -53,7 +51,12 @@ def text_of(view: View, place: Place) -> str:
     others = [name for (own, name), it in view.sources.definitions.items() if (own, it.block) == (place[0], each.block)]
     for name in others if shared else ():
         text = re.sub(rf"(?<![\w.'-]){name}(?![\w'-])", " ".join((name, *(names for names, _ in shared))), text)
-    return textwrap.dedent(re.sub(r": F(?=\)|$)", ": Files", SILENT.sub("", front + text), flags=re.M))
+    for alias, (file, name) in view.sources.imported[place[0]].items():
+        if alias != name and (file, name) in view.sources.definitions:
+            text = re.sub(rf"(?<![\w.]){alias}\b", f"{file.partition('/')[0].removeprefix('krb_')}.{name}", text)
+    text = textwrap.dedent(re.sub(r": F(?=\)|$)", ": Files", SILENT.sub("", front + text), flags=re.M))
+    fields = "; ".join(text.split("\n  ")).replace(" where; ", " where ")
+    return fields if each.kind == "type" and len(wrapped(fields)) <= 1 + bool("record" in front) else text
 
 
 class Card:
@@ -65,26 +68,26 @@ class Card:
     def said(self, place: Place) -> str:
         """Returns what is said of a definition: its kind, its comment or else its name, and where it is from."""
         each, outside = self.view.sources.definitions[place], self.view.sources.outside[place[0]]
-        source = "" if outside == OWN and (each.kind == "relation" or place[0].startswith(FRAME)) else f" [{outside}]"
+        is_frame = not self.runs or each.kind == "relation" or place[0].startswith(FRAME)
+        source = "" if is_frame and outside == OWN else f" [{outside}]"
         return f"{each.kind}{': ' * bool(each.kind)}{each.comment or place[1]}{source}"
 
     def sample(self, place: Place) -> str:
-        """Returns the sample of a definition, if it has one: of itself, or of what it prints by what it names."""
+        """Returns the sample of a definition, if it has one: of itself, or if it is printed of what it names."""
         definitions, level = self.view.sources.definitions, [place]
         if place in self.equations or definitions[place].kind or not self.runs:
             return self.equations.get(place, "")
-        for _ in range(3 if definitions[place].prints else 1):
-            found = [run for it in level if it not in CLOSED and (run := self.runs.of(definitions[it]))]
-            if found:
-                return found[0]
+        for _ in range(3 if PRINTED.search(definitions[place].text) else 1):
+            found = filter(None, (self.runs.of(definitions[it].text) for it in level if it not in CLOSED))
+            if run := next(found, ""):
+                return run
             level = [below for it in level for below in self.view.below(it) if not below[0].startswith(FRAME)]
         return ""
 
     @cache
     def full(self, place: Place) -> list[str]:
         """Returns the lines of a definition in full."""
-        sample = self.sample(place)
-        lines = [f"-- {self.said(place)}", *[f"-- e.g. {sample}"] * bool(sample)]
+        lines = [f"-- {self.said(place)}", *(f"-- e.g. {it}" for it in [self.sample(place)] if it)]
         lines += [] if place in CLOSED else text_of(self.view, place).splitlines()
         return [part for line in lines for part in wrapped(line)]
 
@@ -105,8 +108,8 @@ class Card:
         lines = []
         for title, part in parts.items():
             lines += ["", f"---- {title}", *(line for it in part if it in full for line in self.full(it))]
-        lines += ["", "By their comments:"] * bool(brief) + [line for it in order if it in brief for line in self.brief(it)]
-        left = Counter(place[0].partition("/")[0] for place in order if place not in full | brief)
+        lines += ["", BY_COMMENTS] * bool(brief) + [line for it in order if it in brief for line in self.brief(it)]
+        left = Counter(it[0].partition("/")[0] for it in order if it not in full | brief)
         listed = ", ".join(f"{crate} {number}" for crate, number in sorted(left.items()))
         return lines + (wrapped(f"{left.total()} more are below these: {listed}") if left else [])
 
@@ -114,23 +117,24 @@ class Card:
 def parted(contract: Contract, frame: set[Place]) -> dict[str, list[Place]]:
     """Returns what is on a card, without the frame, by titles: the plan and all that computes, and then the rest."""
     def is_last(place: Place) -> bool:
-        modules = contract.view.sources.definitions[place].around
-        return place[0].startswith(FRAME) or "trait" in " ".join((contract.view.text(place), *modules))
+        each = contract.view.sources.definitions[place]
+        return place[0].startswith(FRAME) or each.kind == "relation" and "Ghosts" in " ".join((each.text, *each.around))
 
-    order = [place for place in contract.order if place not in frame]
-    return {"Rule and format": contract.plan + [it for it in order if it not in contract.plan and not is_last(it)],
-            "What is read, printed, reported and saved": [it for it in order if it not in contract.plan and is_last(it)]}
+    rule = contract.plan + [it for it in contract.order if it not in contract.plan and not is_last(it)]
+    last = [it for it in contract.order if it not in rule]
+    return {"Rule and format": [it for it in rule if it not in frame],
+            "What is read, printed, reported and saved": [it for it in last if it not in frame]}
 
 
 def card_of(name: str, contract: Contract, frame: set[Place], equations: dict[Place, str]) -> list[str]:
     """Returns the lines of the card of a case."""
-    parts, case = parted(contract, frame), CASES[name]
+    parts, case = parted(contract, frame), CARDS[name]
     fixed = [f"{kind} is {names.replace(' ', ' or ')}" for kind, names in case.only.items()]
     fixed += [f"{flag} is {str(value).lower()}" for flag, value in case.flags.items()]
     count = len(frame & {*contract.order})
-    lines = [f"{name}: the contract of {case.function}, in crates/{contract.file}.rt", "", *prose(contract.words),
+    lines = [f"{name}: the contract of {case.function}, in crates/{contract.file}.rt", "", *textwrap.wrap(contract.words, COLUMNS), "",
              f"For any files, input and outputs, {contract.call} ensures", *wrapped(f"    {contract.clause}"),
-             *[f"Here {', and '.join(fixed)}."] * bool(fixed), "", *LEGEND.splitlines(), "",
+             *[f"In this case {', and '.join(fixed)}."] * bool(fixed), "", *LEGEND.splitlines(), "",
              f"The frame, which nearly all commands share, is on its own card: {count} definitions."]
     return lines + Card(contract.view, equations, Runs(name)).body(LINES - len(lines), parts)
 
@@ -140,5 +144,5 @@ def card_of_frame(view: View, contracts: list[Contract], frame: set[Place], equa
     order = [it for it in view.ordered([*dict.fromkeys(it for each in contracts for it in each.named)]) if it in frame]
     last = [it for it in order if not it[0].startswith(FRAME)]
     parts = {"What is read, printed, reported and saved": [it for it in order if it not in last], "Format": last}
-    lines = [f"The frame: {len(frame)} definitions that nearly all commands share", "", *LEGEND.splitlines()]
+    lines = [f"The frame: {len(frame)} definitions that nearly all commands share. The other cards say how to read."]
     return lines + Card(view, equations, None).body(LINES - len(lines), parts)

@@ -27,7 +27,7 @@ class Case:
     lacks: str = ""
 
 
-CASES = {
+CARDS = {
     "klist -k": Case("run_klist", LISTS_KEYTAB, {"json": False}, "klist", "keytab", "json"),
     "klist -c": Case("run_klist", LISTS_CACHE, {"json": False}, "klist", "", "json keytab list silent"),
     "klist --json": Case("run_klist", {}, {"json": True}, "klist", "json", "list"),
@@ -50,23 +50,22 @@ CASES = {
 }
 
 
-def chosen(text: str, flag: str, value: bool) -> tuple[str, int]:
-    """Returns a text with what a flag selects where it asks for it alone, and how often it does."""
-    count = 0
+def chosen(text: str, flag: str, value: bool) -> str:
+    """Returns a text with what a flag selects in place of what asks for the flag alone."""
     while at := re.search(rf"\bif (?:\w+\.)?{flag} then ", text):
-        count += 1
-        depth, opened, first_end, end = 0, 0, 0, len(text)
+        depth, opened, parts, start = 0, 0, [], at.end()
         for token in TOKEN.finditer(text, at.end()):
             depth += (token[0] in "([{") - (token[0] in ")]}")
             opened += (token[0] == "if") - (token[0] == "else")
-            if depth < 0 or (depth == 0 and token[0] in ",;"):
-                end = token.start()
-                break
-            if not first_end and depth == 0 and opened < 0:
-                first_end, second = token.start(), token.end()
-        first, other = text[at.end():first_end].strip(), text[second:end].strip()
-        text = text[:at.start()] + (first if value else other) + text[end:]
-    return text, count
+            if depth < 0 or not depth and (token[0] in ",;" or not parts and opened < 0):
+                parts.append(text[start:token.start()].strip())
+                start = token.end()
+                if token[0] != "else":
+                    break
+        else:
+            token, parts = None, [*parts, text[start:].strip()]
+        text = text[:at.start()] + parts[0 if value else 1] + (text[token.start():] if token else "")
+    return text
 
 
 @dataclass(eq=False)
@@ -79,16 +78,15 @@ class View:
 
     @cache
     def text(self, place: Place) -> str:
-        """Returns the text of a definition, without the equations of other constructors and what flags do not select.
-        """
-        each = self.sources.definitions[place]
-        if self.case is None or each.kind and " = " not in each.text and "=\n" not in each.text:
-            return each.text
-        front, *equations = re.split(rf"^(?= *{re.escape(place[1])} (?!:))", each.text, flags=re.M)
+        """Returns the text of a definition: the equations of the case, with what its flags select."""
+        text = self.sources.definitions[place].text
+        if self.case is None:
+            return text
+        front, *equations = re.split(rf"^(?= *{re.escape(place[1])} (?!:))", text, flags=re.M)
         text = front + "".join(it for it in equations if self.is_met(it, place[0]))
         for flag, value in self.case.flags.items():
-            text, count = chosen(text, flag, value)
-            self.met |= {flag} if count else set()
+            before, text = text, chosen(text, flag, value)
+            self.met |= {flag} if text != before else set()
         return text.rstrip("\n")
 
     def is_met(self, equation: str, own: str) -> bool:

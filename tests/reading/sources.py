@@ -11,7 +11,7 @@ NAME = re.compile(r"(?<![\w.'])(?:(\w+)\.)?([A-Za-z_][\w'-]*)")  # a name, after
 # What is no use of a definition: comments, texts, the names of fields, and those of parameters.
 UNUSED = re.compile(r'--.*|"[^"\n]*"|^ *pub [\w\']+ :|(?<=[{;])\s*[\w\']+ =(?!=)', re.M)
 BOUND = re.compile(r"[({]([\w' ]+) :|λ ([\w' ]+)\.|^ *[\w'-]+ ([^=:{\n]+) =(?: |$)|\blet ([\w']+) |^ *([\w']+) ←", re.M)
-FROM_OUTSIDE = re.compile(r"\(((?:MIT|RFC|X\.690|IANA)[^()]*(?:\([^()]*\))?[^()]*)\)[.:]?$")
+FROM_OUTSIDE = re.compile(r"\(((?:MIT|RFC|X\.|IANA)[^()]*)\)\.$")
 OWN = "krbfile's own"
 Place = tuple[str, str]  # a definition: its file, as `CRATE/specs/FILE`, and its name
 
@@ -33,11 +33,6 @@ class Definition:
             return "relation" if self.around or re.match(r".* \(\w[^:]*: (?!Type)", self.text) else "type"
         kind = re.split(r"\n *[\w'-]+ [^:\n]*=", self.text.partition(" : ")[2])[0].strip()
         return "" if not kind.endswith("Type 0") else "relation" if "→" in kind or self.around else "type"
-
-    @property
-    def prints(self) -> bool:
-        """Returns whether it is bytes or what is printed."""
-        return bool(re.search(r"[:→] (?:List ℕ|Page|Effect|CommandPlan)\n", self.text))
 
 
 @dataclass(eq=False)

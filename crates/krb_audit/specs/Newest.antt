@@ -1,4 +1,4 @@
--- The newest entry of a name, and which entries are old.
+-- The newest entry of a name, and which entries are old (MIT kt_file.c, more_recent).
 use Rattle.std.specs.Prelude.{ℕ, List, [], ◌∷◌, Bool, false, ◌&&◌, ◌==◌, not, nat_lt, filter, if◌then◌else◌, Option, None, Some}
 use Rattle.krb_wire.specs.Spelling.{Parts}
 use Rattle.krb_wire.specs.Names.{have_same_name}
@@ -9,7 +9,7 @@ use Rattle.krb_keytab.specs.Find.{PlacedEntry}
 abbrev pub has_wrapped : ℕ → ℕ → Bool
 has_wrapped small large = nat_lt small 128 && nat_lt 240 large
 
--- a later entry in the file replaces the newest so far: its kvno is greater; across a wrap of the kvno the later time decides, and at one time the smaller kvno (MIT kt_file.c, more_recent)
+-- a later entry in the file replaces the newest so far: its kvno is greater; across a wrap of the kvno the later time decides, and at one time the smaller kvno
 abbrev pub is_newer : EntryParts → EntryParts → Bool
 is_newer newest later =
     if has_wrapped later.version newest.version then not (nat_lt later.timestamp newest.timestamp)

@@ -1,4 +1,4 @@
--- Configuration entries (MIT krb5, "Credential cache file format", section "Credential cache configuration entries").
+-- Configuration entries (MIT ccache format, configuration entries).
 use Rattle.std.specs.Prelude.{ℕ, Bool, true, false, ◌&&◌, List, [], ◌∷◌, Option, Some, None, is_some, option_map, find, codes, option_copied, if◌then◌else◌}
 use Rattle.std.specs.Str.{bytes_eq}
 use Rattle.krb_wire.specs.Spelling.{Parts}

@@ -1,4 +1,4 @@
--- Credentials: fields, spelling and reading (MIT krb5, "Credential cache file format", section "Credential format").
+-- Credentials: fields, spelling and reading; the removed mark is krbfile's own (MIT ccache format, credential).
 use Rattle.std.specs.Prelude.{option_map, ◌≡◌, ℕ, ◌<◌, ◌^◌, ◌==◌, Bool, ◌&&◌, List, [], ◌∷◌, ◌++◌, length, map, Option, Some, Vec}
 use Rattle.std.specs.Borrow.{Bor}
 use Rattle.std.specs.Vec.{vec_items}

@@ -1,4 +1,4 @@
--- DER (X.690), as far as a ticket needs it: elements with a tag of one byte, GeneralStrings and INTEGERs.
+-- DER, as far as a ticket needs it: elements with a tag of one byte, GeneralStrings and INTEGERs (X.690).
 use Rattle.std.specs.Prelude.{ℕ, zero, suc, ◌+◌, ◌*◌, ◌-◌, ◌==◌, ℤ, pos, negsuc, List, [], ◌∷◌, length, Bool, true, false, not, ◌&&◌, ◌||◌, nat_lt, nat_le, if◌then◌else◌, Option, None, Some, unwrap_or, slice_index}
 use Rattle.std.specs.List.{fold}
 use Rattle.krb_wire.specs.Reading.{◌>>=◌, byte_at, bytes_at}

@@ -1,4 +1,4 @@
--- The header of a version 4 cache: tagged fields (MIT krb5, "Credential cache file format", section "Header").
+-- The header of a version 4 cache: tagged fields (MIT ccache format, header).
 use Rattle.std.specs.Prelude.{◌≡◌, ℕ, ◌<◌, ◌^◌, ◌==◌, ◌&&◌, List, [], ◌∷◌, ◌++◌, length, take, drop, Option, Some, None, option_map, if◌then◌else◌}
 use Rattle.std.specs.Borrow.{Bor}
 use Rattle.std.specs.List.{flat_map, filter_map, AllByRecursion}

@@ -14,7 +14,7 @@ use Rattle.krb_ccache.specs.Credential.{credential}
 use Rattle.krb_ccache.specs.Header.{Field, header_at}
 use Rattle.krb_ccache.specs.Store.{CacheState, credentials_format, version_byte, store_cell, open_result}
 
--- the number of a fault in messages: our choice
+-- the number that messages have for an image that is no cache
 abbrev pub open_fault_number : CcOpenFault → ℕ
 open_fault_number TooShort = 1
 open_fault_number BadVersion = 2

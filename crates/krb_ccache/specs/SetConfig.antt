@@ -1,4 +1,4 @@
--- Setting a configuration value: an entry that holds it is added, and every other entry of its name is removed.
+-- Setting a configuration value: an entry that holds it is added, and every other entry of its name is removed (MIT ccache format, configuration entries).
 use Rattle.std.specs.Prelude.{◌≡◌, ℕ, List, [], ◌∷◌, map, filter, codes, Option, Some, None, Result, Ok, Err, if◌then◌else◌}
 use Rattle.krb_wire.specs.Spelling.{Parts}
 use Rattle.krb_walk.specs.declared.event.Event.{Event}

@@ -1,4 +1,4 @@
--- What a credential cache holds, and the cache as a store.
+-- What a credential cache holds, and the cache as a store (MIT ccache format).
 use Rattle.std.specs.Prelude.{ℕ, ◌+◌, List, [], ◌∷◌, ◌++◌, length, drop, map, slice_index, Bool, true, false, not, filter, find, Option, Some, None, Result, Ok, Err, nat_lt, ◌==◌, if◌then◌else◌}
 use Rattle.krb_wire.specs.Spelling.{Parts, cc_principal}
 use Rattle.krb_wire.specs.Reading.{cc_principal_at}

@@ -1,4 +1,4 @@
--- What a ticket has in its own bytes (RFC 4120 5.3): its encryption (5.2.9) and its server (5.2.2).
+-- What a ticket has in its own bytes: its encryption (5.2.9) and its server (5.2.2) (RFC 4120 5.3).
 use Rattle.std.specs.Prelude.{ℕ, suc, Bool, false, ◌^◌, ◌-◌, ◌==◌, ℤ, pos, negsuc, List, nat_lt, if◌then◌else◌, Option, None, Some, slice_index}
 use Rattle.std.specs.Int.{w32, cast_unsigned}
 use Rattle.krb_wire.specs.Reading.{◌>>=◌}

@@ -12,7 +12,7 @@ pub record Contents (C E : Type 0) : Type 0 where
   pub cells : List C
   pub end : E
 
--- a format of cells: what bytes begin with, how a cell and an end are spelled, and the end of no bytes
+-- a format of cells: what bytes begin with, how a cell and an end are spelled, and the end of none
 pub record Format (C E : Type 0) : Type 0 where
   pub next : List ℕ → NextCell C E
   pub cell : C → List ℕ

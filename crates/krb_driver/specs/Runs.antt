@@ -11,7 +11,7 @@ use Rattle.std.specs.Io.KnownBytes.{Appends}
 use Rattle.krb_driver.specs.declared.error.RunError.TheVariants.{OutputNotWritten, NoMemory}
 use Rattle.krb_text.specs.Gathered.{Sent}
 
--- an error output, and whether messages are followed by the words of --explain
+-- an error output, and whether the words of --explain follow messages
 pub record ErrorWatch : Type 0 where
   pub to : Watch
   pub explains : Bool
@@ -55,14 +55,14 @@ pub record Run : Type 0 where
 abbrev pub ends_by : RunError → Run
 ends_by error = record { out = []; ending = Err error }
 
--- a text was printed, from the output `out` to `out'`, and the run ended as is due; or the output failed, has a prefix of the text, and that ended the run
+-- a text was printed, from the output `out` to `out'`, and the run ended as is due; or the output failed, which ended it, and has a prefix
 pub record Shows (due : Run) (out out' : Watch) (ending : Ending) : Type 0 where
   pub done : IsFalse out'.failed → Appends out.contents out'.contents due.out × (ending ≡ due.ending)
   pub prefix : AppendsPrefix out.contents out'.contents due.out
   pub failed : IsTrue out'.failed → ending ≡ Err OutputNotWritten
   pub still : due.out ≡ [] → out'.failed ≡ out.failed
 
--- memory ran out while a text was printed: the output `out'` has a prefix of the text after `out`
+-- memory ran out while a text was printed, from the output `out` to `out'`
 pub record BreaksOff (due : Run) (out out' : Watch) (ending : Ending) : Type 0 where
   pub ending_is : ending ≡ Err NoMemory
   pub well : IsFalse out'.failed
@@ -92,7 +92,7 @@ pub record ReportsEnd (file : List ℕ) (line : Option ℕ) (details : Details) 
   pub writes : Writes err.to err'.to (ending_text err.explains file line details ending)
   pub still : err'.explains ≡ err.explains
 
--- the end of a run was reported, from the error output `err` to `err'`, and the exit status is by the end and by what a save left behind
+-- the end of a run was reported, from the error output `err` to `err'`; the exit status is by the end and by what a save left behind
 pub record Reports (file : List ℕ) (line : Option ℕ) (details : Details) (ending : Ending) (err err' : ErrorWatch) (status : ℕ) : Type 0 where
   pub reports : ReportsEnd file line details ending err err'
   pub status_is : status ≡ end_status ending details.aftermath

@@ -15,7 +15,7 @@ most_bytes = 16777216
 abbrev pub Answer : Type 0
 Answer = Result (List ℕ) LoadFault
 
--- the hold of a name began, or the hold ended, which took the files from `old` to `new`; nothing else changed
+-- the hold of a name began, or ended, from files `old` to `new`; all else is equal
 pub record TurnsHold {F : Type 0} (trait : Ghosts F) (held : Option (List ℕ)) (old new : F) : Type 0 where
   pub held_is : trait.held new ≡ held
   pub honest : trait.is_honest old → trait.is_honest new
@@ -24,7 +24,7 @@ pub record TurnsHold {F : Type 0} (trait : Ghosts F) (held : Option (List ℕ)) 
   pub mode : trait.mode new ≡ trait.mode old
 
 module _ {F : Type 0} (trait : Ghosts F) (old : F) (name : List ℕ) where
-  -- the file of a name was loaded from the files `old`, with this result, which left the files `new`: over honest files what is there, unless the call failed or memory ran out
+  -- the file of a name was loaded, with this result, from the files `old`, which left `new`: over honest files what is there, unless the call failed or memory ran out
   pub record LoadsFile (answer : Answer) (new : F) : Type 0 where
     pub answered : trait.answers old name most_bytes answer new
     pub failed : answer ≡ Err load.Failed → CountsFailure (trait.failure_count old) (trait.failure_count new)
@@ -34,7 +34,7 @@ module _ {F : Type 0} (trait : Ghosts F) (old : F) (name : List ℕ) where
     pub same : trait.is_honest old → SameFiles (trait.file old) (trait.file new)
     pub is_what_is_there : trait.is_honest old → (answer ≡ Err load.Failed) ⊎ (answer ≡ Err load.NoMemory) ⊎ (answer ≡ loaded (trait.file old name) most_bytes)
 
-  -- bytes were saved under a name, with this result, which took the files from `old` to `new`: over honest files that file has the bytes, or after a failure all are as before
+  -- bytes were saved under a name, with this result, from the files `old` to `new`: over honest files only that file changed, and none if the save failed
   pub record SavesFile (bytes : List ℕ) (answer : Result (Unit {0}) SaveFault) (new : F) : Type 0 where
     pub answered : trait.saves old name bytes answer new
     pub failed : answer ≡ Err save.Failed → CountsFailure (trait.failure_count old) (trait.failure_count new)

@@ -6,7 +6,7 @@ use Rattle.krb_files.specs.declared.files.LoadFault.TheVariants as load
 use Rattle.krb_files.specs.Files.{FileMap, loaded}
 use Rattle.krb_files.specs.Loading.{Answer, LoadsFile, TurnsHold, most_bytes}
 
--- a plan over files: it `Ends` with an outcome; or it `Holds` a file, if the flag is set, before the rest; or it `Loads` a file, and the result selects the rest
+-- a plan over files: it `Ends` with an outcome, or `Holds` a file, if the flag is set, before the rest, or `Loads` a file, whose result selects the rest
 pub data Plan (R : Type 0) : Type 0 where
   Ends : R → Plan R
   Holds : Bool → List ℕ → Plan R → Plan R

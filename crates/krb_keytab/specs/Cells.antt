@@ -1,4 +1,4 @@
--- A keytab as a list of cells and an end, and the bytes that spell it (MIT krb5, "Keytab file format").
+-- A keytab as a list of cells and an end, and the bytes that spell it (MIT keytab format).
 use Rattle.std.specs.Prelude.{◌≡◌, ℕ, ◌<◌, ◌≤◌, ◌^◌, List, [], ◌∷◌, ◌++◌, length, take, drop, Option, Some, None, IsSome, is_some, nat_lt, if◌then◌else◌, ◌-◌, ◌==◌}
 use Rattle.std.specs.List.{flat_map, AllByRecursion}
 use Rattle.std.specs.Int.{w32}

@@ -1,4 +1,4 @@
--- Adding an entry to a keytab, and removing one. A keytab is a store for walks, `store_of`; `put_result` is the result of an addition, `cut_result` that of a removal.
+-- Adding an entry to a keytab, and removing one. A keytab is a store for walks, `store_of`; `put_result` is the result of an addition, `cut_result` that of a removal (MIT keytab format).
 use Rattle.std.specs.Prelude.{ℕ, ◌+◌, ◌-◌, List, [], ◌∷◌, ◌++◌, length, map, find, replicate, Option, Some, None, is_some, Result, Ok, Err, Bool, true, false, ◌||◌, nat_lt, nat_le, ◌==◌, if◌then◌else◌, option_map, ◌≡◌, ◌<◌, ◌≤◌}
 use Rattle.krb_wire.specs.Spelling.{Parts}
 use Rattle.krb_walk.specs.declared.refusal.Code.{Code}

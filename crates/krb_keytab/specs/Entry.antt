@@ -1,4 +1,4 @@
--- Entries of a keytab: what they are, how they are spelled, how they are read (MIT krb5, "Keytab file format", section "Key entry format").
+-- Entries of a keytab: what they are, how they are spelled, how they are read (MIT keytab format, key entry).
 use Rattle.std.specs.Prelude.{◌≡◌, ℕ, ◌<◌, ◌^◌, List, [], ◌∷◌, ◌++◌, Option, Some, None, ◌==◌, if◌then◌else◌}
 use Rattle.std.specs.Int.{w16, w32}
 use Rattle.krb_wire.specs.declared.format.KtFormat.{KtFormat}

@@ -1,4 +1,4 @@
--- The one spelling that is written for an entry: fields as in MIT's "Keytab file format", section "Key entry format"; always writing the 32-bit kvno is our choice.
+-- The one spelling that is written for an entry; that the 32-bit kvno is always written is krbfile's choice (MIT keytab format, key entry).
 use Rattle.std.specs.Prelude.{ℕ, ◌<◌, ◌^◌, ◌%◌, List, ◌++◌, replicate, Bool, ◌&&◌, if◌then◌else◌, IsSome}
 use Rattle.std.specs.Int.{w32}
 use Rattle.krb_wire.specs.declared.format.KtFormat.{KtFormat}

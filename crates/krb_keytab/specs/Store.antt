@@ -1,4 +1,4 @@
--- What a keytab holds, and its store.
+-- What a keytab holds, and its store (MIT keytab format).
 use Rattle.std.specs.Prelude.{◌≡◌, ℕ, ◌+◌, ◌≤◌, List, [], length, drop, map, slice_index, Option, Some, None, Result, Ok, Err, nat_lt, ◌==◌, if◌then◌else◌}
 use Rattle.std.specs.List.{filter_map}
 use Rattle.krb_wire.specs.declared.format.Order.{Order}

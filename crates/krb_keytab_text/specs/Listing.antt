@@ -1,4 +1,4 @@
--- The listings of a keytab and of slots, and their lines.
+-- The listings of a keytab and of slots, and their lines (MIT klist).
 use Rattle.std.specs.Prelude.{ℕ, List, [], ◌++◌, codes, Bool, if◌then◌else◌, ◌∷◌, decimal}
 use Rattle.std.specs.List.{flat_map, enumerate_from}
 use Rattle.krb_wire.specs.Names.{name_text}

@@ -1,4 +1,4 @@
--- The days from 1970-01-01 on, counted one by one.
+-- The days from 1970-01-01 on, counted one by one, and times as text (RFC 3339).
 use Rattle.std.specs.Prelude.{ℕ, zero, suc, ◌+◌, ◌/◌, ◌%◌, List, pos, nat_lt, if◌then◌else◌, [], ◌∷◌, ◌++◌, codes}
 use Rattle.jiff_core.specs.Calendar.{days_in_month}
 

@@ -1,4 +1,4 @@
--- Encryption types by IANA's numbers. Key sizes: RFC 3961 (16), 3962 (17, 18), 8009 (19, 20), 4757 (23), 6803 (25, 26).
+-- Encryption types by IANA's numbers and MIT's names. Key sizes: RFC 3961 (16), 3962 (17, 18), 8009 (19, 20), 4757 (23), 6803 (25, 26) (IANA, RFC 3961).
 -- The names are those that MIT Kerberos reads. And keys as hexadecimal text.
 use Rattle.std.specs.Prelude.{ℕ, List, [], ◌∷◌, ◌++◌, ◌==◌, codes, decimal, Option, None, Some, map, unwrap_or, Bool, true, false, slice_get, length, if◌then◌else◌}
 use Rattle.std.specs.List.{find, list_any}

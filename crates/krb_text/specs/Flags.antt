@@ -1,4 +1,4 @@
--- Ticket flags as letters: the flags of RFC 4120, section 5.3, and RFC 8062, under the letters that MIT's klist prints.
+-- Ticket flags as letters: the flags of RFC 4120, section 5.3, and RFC 8062, under the letters that MIT's klist prints (RFC 4120 5.3, RFC 8062).
 use Rattle.std.specs.Prelude.{ℕ, ◌^◌, ◌==◌, List, [], ◌∷◌, map, filter, codes, Bool, not, bit_and}
 use Rattle.std.specs.List.{zip}
 

@@ -7,7 +7,7 @@ use Rattle.krb_walk.specs.declared.fault.Fault.{Fault}
 use Rattle.krb_walk.specs.declared.stop.Stop.{Stop}
 use Rattle.krb_walk.specs.declared.stop.Stop.TheVariants.{Live, End, Fault as AtFault}
 
--- a cell of a store, a keytab's or a cache's: how many places it takes, and its bytes if it is live; a free cell, as a hole, has none
+-- a cell of a store: how many places it takes, and its bytes if it is live; a hole has none
 pub record Cell : Type 0 where
   pub width : ℕ
   pub live : Option (List ℕ)

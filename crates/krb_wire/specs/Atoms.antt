@@ -1,4 +1,4 @@
--- The text of a name, split from the left into atoms: a backslash and the byte after it, or one byte.
+-- The text of a name, split from the left into atoms: a backslash and the byte after it, or one byte (MIT krb5_parse_name).
 use Rattle.std.specs.Prelude.{ℕ, Bool, true, false, List, [], ◌∷◌, Option, Some, None, if◌then◌else◌, ◌==◌, ◌||◌}
 use Rattle.krb_wire.specs.declared.atom.Atom.{Atom}
 use Rattle.krb_wire.specs.declared.atom.Atom.TheVariants.{Byte, Slash, At, Lone}

@@ -1,4 +1,4 @@
--- The name that a text parses as, or the fault of the text.
+-- The name that a text parses as, or the fault of the text (MIT krb5_parse_name).
 use Rattle.std.specs.Prelude.{ℕ, List, [], ◌∷◌, ◌++◌, map, Option, Some, None, option_map, unwrap_or, Result, Ok, Err, codes, Bool, true, false, ◌≡◌, ◌<◌, length}
 use Rattle.std.specs.List.{filter_map, slice_split}
 use Rattle.std.specs.Option.{option_or}

@@ -1,4 +1,4 @@
--- Names as text.
+-- Names as text (MIT krb5_parse_name).
 use Rattle.std.specs.Prelude.{ℕ, List, ◌∷◌, ◌++◌, map, ◌≡◌, [], if◌then◌else◌, ◌==◌, Bool, ◌&&◌}
 use Rattle.std.specs.List.{join_with_byte, flat_map}
 use Rattle.krb_wire.specs.Spelling.{Parts}

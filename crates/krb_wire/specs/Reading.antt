@@ -1,4 +1,4 @@
--- Reading from left to right: a part and the bytes after it, if the bytes begin with one.
+-- Reading from left to right: a part and the bytes after it, if the bytes begin with one (MIT keytab, ccache).
 use Rattle.std.specs.Prelude.{◌≡◌, ℕ, zero, suc, ◌≤◌, ◌-◌, List, [], ◌∷◌, length, take, drop, Option, Some, None, nat_lt, if◌then◌else◌, option_map, unwrap_or, map, Vec}
 use Rattle.std.specs.Int.{Width, w16, w32, byte_len}
 use Rattle.std.specs.Vec.{vec_items}

@@ -1,4 +1,4 @@
--- What names are, and the one encoding of each.
+-- What names are, and their one spelling in a keytab and in a cache (MIT keytab, ccache).
 use Rattle.std.specs.Prelude.{◌≡◌, ℕ, ◌+◌, ◌<◌, ◌^◌, ◌≤◌, List, [], ◌++◌, length, drop, Bool, true, false, ◌&&◌, nat_lt, if◌then◌else◌, IsTrue}
 use Rattle.std.specs.List.{flat_map, list_all, AllByRecursion}
 use Rattle.std.specs.Int.{Width, w16, w32, to_be_bytes, to_le_bytes, from_be_bytes, from_le_bytes}
