@@ -3,7 +3,7 @@
 # make            proves the program and builds bin/krbfile
 # make static     builds bin/krbfile-static, which needs no C library where it runs and starts sooner
 # make lib        proves and builds the C library, lib/libkrbfile.a and lib/libkrbfile.so.1, which c/krbfile.h declares
-# make cards      writes a card of each command, which has what its contract says, to bin/cards/
+# make cards      writes a card of each kind of command line, as klist -k, with what its contract says, to bin/cards/
 # make samples    makes the files that README works on, in samples/
 # make test       proves every crate from nothing, runs all tests, those of the program that this built too, and tries
 #                 the wrong bodies; afterwards the other targets prove nothing again

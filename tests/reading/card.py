@@ -48,11 +48,11 @@ def text_of(view: View, place: Place) -> str:
     front = record[0] + "".join(f" ({names} : {kind})" for names, kind in shared) if record else ""
     text = text[record.end():] if record else re.search(rf"^ *{re.escape(place[1])} (?!:).*", text, re.M | re.S)[0]
     # In a module its parameters are left out.
-    others = [name for (own, name), it in view.sources.definitions.items() if (own, it.block) == (place[0], each.block)]
-    for name in others if shared else ():
-        text = re.sub(rf"(?<![\w.'-]){name}(?![\w'-])", " ".join((name, *(names for names, _ in shared))), text)
+    for (own, name), it in view.sources.definitions.items() if shared else ():
+        if name in text and (own, it.block) == (place[0], each.block):
+            text = re.sub(rf"(?<![\w.'-]){name}(?![\w'-])", " ".join((name, *(names for names, _ in shared))), text)
     for alias, (file, name) in view.sources.imported[place[0]].items():
-        if alias != name and (file, name) in view.sources.definitions:
+        if alias in text and alias != name and (file, name) in view.sources.definitions:
             text = re.sub(rf"(?<![\w.]){alias}\b", f"{file.partition('/')[0].removeprefix('krb_')}.{name}", text)
     text = textwrap.dedent(re.sub(r": F(?=\)|$)", ": Files", SILENT.sub("", front + text), flags=re.M))
     fields = "; ".join(text.split("\n  ")).replace(" where; ", " where ")
