@@ -1,5 +1,5 @@
-"""There is a card of each case: few lines of few columns, and those that are to be complete are. What computes on them is
-computed by samples. What a contract says does not change with the constants of the code: no definition names one, and
+"""There is a card of each case: few lines of few columns, and those to be complete are. What computes on these is below
+samples. What a contract says does not change with the constants of the code: no definition names one, and
 clauses only sizes."""
 
 import re

@@ -132,7 +132,8 @@ def card_of(name: str, contract: Contract, frame: set[Place], equations: dict[Pl
     fixed = [f"{kind} is {names.replace(' ', ' or ')}" for kind, names in case.only.items()]
     fixed += [f"{flag} is {str(value).lower()}" for flag, value in case.flags.items()]
     count = len(frame & {*contract.order})
-    lines = [f"{name}: the contract of {case.function}, in crates/{contract.file}.rt", "", *textwrap.wrap(contract.words, COLUMNS), "",
+    lines = [f"{name}: the contract of {case.function}, in crates/{contract.file}.rt", "",
+             *textwrap.wrap(contract.words, COLUMNS), "",
              f"For any files, input and outputs, {contract.call} ensures", *wrapped(f"    {contract.clause}"),
              *[f"In this case {', and '.join(fixed)}."] * bool(fixed), "", *LEGEND.splitlines(), "",
              f"The frame, which nearly all commands share, is on its own card: {count} definitions."]

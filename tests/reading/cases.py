@@ -90,7 +90,7 @@ class View:
         return text.rstrip("\n")
 
     def is_met(self, equation: str, own: str) -> bool:
-        """Returns whether an equation is one of a case: its pattern has no other constructor of a type that is fixed."""
+        """Returns whether an equation is one of a case: its pattern has no other constructor of a fixed type."""
         named = self.sources.constructors_in(re.split(r" =(?: |$)", equation, maxsplit=1, flags=re.M)[0], own)
         fixed = [(kind, name) for kind, name in named if kind in self.case.only]
         self.met |= {f"{kind}.{name}" for kind, name in fixed}

@@ -10,7 +10,8 @@ HEAD = re.compile(r"^ *(?:(?:abbrev|unfoldable)(?: pub)?|(?:pub )?(?:record|data
 NAME = re.compile(r"(?<![\w.'])(?:(\w+)\.)?([A-Za-z_][\w'-]*)")  # a name, after the one before its dot, if any
 # What is no use of a definition: comments, texts, the names of fields, and those of parameters.
 UNUSED = re.compile(r'--.*|"[^"\n]*"|^ *pub [\w\']+ :|(?<=[{;])\s*[\w\']+ =(?!=)', re.M)
-BOUND = re.compile(r"[({]([\w' ]+) :|λ ([\w' ]+)\.|^ *[\w'-]+ ([^=:{\n]+) =(?: |$)|\blet ([\w']+) |^ *([\w']+) ←", re.M)
+BOUND = re.compile(r"[({]([\w' ]+) :|λ ([\w' ]+)\.|^ *[\w'-]+ ([^=:{\n]+) =(?: |$)|"
+                   r"\blet ([\w']+) |^ *([\w']+) ←", re.M)
 FROM_OUTSIDE = re.compile(r"\(((?:MIT|RFC|X\.|IANA)[^()]*)\)\.$")
 OWN = "krbfile's own"
 Place = tuple[str, str]  # a definition: its file, as `CRATE/specs/FILE`, and its name
