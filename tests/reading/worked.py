@@ -34,7 +34,7 @@ def equations(sources: Sources) -> dict[Place, str]:
 def rows() -> list[tuple[Words, Case]]:
     """Returns the runs of the tests that are compared with the definitions, those in THEOREMS first."""
     found = []
-    tables = [getattr(module, name, ()) for name in ("THEOREMS", "CARDS") for module in modules().values()]
+    tables = [getattr(module, name, ()) for name in ("THEOREMS", "CASES") for module in modules().values()]
     for row in (row for table in tables for row in table if isinstance(row, Case) and row.wanted.status != 2):
         with suppress(NotComputed):
             term_of(row)
