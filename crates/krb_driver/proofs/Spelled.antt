@@ -52,9 +52,9 @@ module _ {X : Type 0} (f : List ℕ → Result X MistakeParts) (words : List (Bo
       → result_err (each f (texts words)) ≡ Some m
   mistake_here m here is =
       sym is ∙ ap (λ (ws : List (Bor (List ℕ))). result_err (each f (texts ws))) (drop_more words i d below) ∙ first (f (get_or words i d).now) here where
-    first : (r : Result X MistakeParts) → result_err r ≡ Some m → result_err (r >>= (λ v. each f (texts (drop (i + 1) words)) >>= (λ vs. Ok (v ∷ vs)))) ≡ Some m
-    first (Ok v) e = absurd (cc)
-    first (Err n) e = e
+        first : (r : Result X MistakeParts) → result_err r ≡ Some m → result_err (r >>= (λ v. each f (texts (drop (i + 1) words)) >>= (λ vs. Ok (v ∷ vs)))) ≡ Some m
+        first (Ok v) e = absurd (cc)
+        first (Err n) e = e
 
   more : (vs : List X) (v : X) → f (get_or words i d).now ≡ Ok v → each f (texts (take i words)) ≡ Ok vs → each f (texts (take (i + 1) words)) ≡ Ok (vs ++ v ∷ [])
   more vs v is are =

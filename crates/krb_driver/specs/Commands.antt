@@ -18,40 +18,40 @@ pub use Rattle.krb_driver.specs.declared.command.World.{World}
 use Rattle.krb_driver.specs.Runs.{ErrorWatch, Run, EndsRun, Shows, BreaksOff, Reports, ends_by}
 pub use Rattle.krb_driver.specs.Effects.{Page, text, Effect, Fails, Displays, Saves, ending_of, about, is_save, saves_unless, saved_end, settled, files_after, IsSpent, IsMade, IsFailure}
 
--- all that a command does
+-- the plan of a command: which files it holds and loads, and what it comes to by what they give
 abbrev pub CommandPlan : Type 0
 CommandPlan = Plan Effect
 
--- a command goes on with what a file gave, or with the error, which has the source of its name
+-- a plan goes on with what a file gave, or with the error, which then says where the file's name comes from
 abbrev pub goes_on : {X : Type 0} → FileName → Result X RunError → (X → CommandPlan) → (RunError → CommandPlan) → CommandPlan
 goes_on file (Ok x) then_ fails = then_ x
 goes_on file (Err why) then_ fails = fails (error_of_name file.source why)
 
--- a file is loaded and opened, and the command goes on with the keytab or cache, or with the error; a name of another type is an error and is not loaded
+-- a plan that loads and opens a file, and goes on with the keytab or cache, or with the error; a file whose name has a type that is not read is an error and is not loaded
 abbrev pub tries : {X : Type 0} → FileName → (Answer → Result X RunError) → (X → CommandPlan) → (RunError → CommandPlan) → CommandPlan
 tries file gives then_ fails =
     if file.is_other_type then fails (error.OtherType file.kind file.source) else Loads file.name.now (λ answer. goes_on file (gives answer) then_ fails)
 
--- a file is loaded and opened, and the command goes on with what it gave; an error ends it
+-- a plan that loads and opens a file, and goes on with the keytab or cache; an error ends it
 abbrev pub opens : {X : Type 0} → FileName → (Answer → Result X RunError) → (X → CommandPlan) → CommandPlan
 opens file gives then_ = tries file gives then_ (λ why. Ends (Fails file.name.now why))
 
--- whether a file is held that is to be held: not if its name is of another type
+-- a file that is to be held is held, unless its name has a type that is not read
 abbrev pub can_hold : Bool → FileName → Bool
 can_hold held file = held && not file.is_other_type
 
--- a file is held, if `held`, before the rest of a plan
+-- a plan that first holds a file, if `held`
 abbrev pub holds : Bool → FileName → CommandPlan → CommandPlan
 holds held file plan = Holds (can_hold held file) file.name.now plan
 
 -- ---- what is made of the files
 
--- the effect if the file of that name was not read and the plan goes on so: its end if that reports it, or else the error
+-- what a plan comes to where a file was not read: its own report of that, if it has one, or else the error
 abbrev pub if_unread : List ℕ → CommandPlan → Effect
 if_unread name (Ends effect) = if is_unread (ending_of effect) then effect else Fails name error.FileNotRead
 if_unread name plan = Fails name error.FileNotRead
 
--- the effect of a plan by the results of its loads: as `by` has it, but that the plan may report a failed load
+-- what a plan comes to by the results of its loads: a load that failed, or memory that ran out, ends it, but it may report a failed load itself
 abbrev pub effect_by : CommandPlan → List Answer → Effect
 effect_by (Ends effect) answers = effect
 effect_by (Holds held name plan) answers = effect_by plan answers
@@ -60,23 +60,23 @@ effect_by (Loads name then_) (Err load.Failed ∷ answers) = if_unread name (the
 effect_by (Loads name then_) (Err load.NoMemory ∷ answers) = Fails name error.NoMemory
 effect_by (Loads name then_) (answer ∷ answers) = effect_by (then_ answer) answers
 
--- what a file gave, or the error with that file's name
+-- what a file gave, or the error with the file's name
 abbrev pub of_file : {X : Type 0} → FileName → Result X RunError → Result X (List ℕ × RunError)
 of_file file (Ok x) = Ok x
 of_file file (Err why) = Err (file.name.now, error_of_name file.source why)
 
--- `Fair` holds of what was opened, if something was
+-- `Fair` holds of what was opened, if a file was
 abbrev pub FairOver : {X E : Type 0} → (X → Type 0) → Result X E → Type 0
 FairOver Fair (Ok x) = Fair x
 FairOver Fair (Err e) = Unit {0}
 
--- `Fair` holds of what the first load gave, if it gave something
+-- `Fair` holds of what the first load gave, if a file was opened
 abbrev pub fair_first : {X : Type 0} → (Answer → Result X RunError) → (X → Type 0) → List Answer → Type 0
 fair_first gives Fair [] = Unit {0}
 fair_first gives Fair (answer ∷ answers) = FairOver Fair (gives answer)
 
 module _ {F : Type 0} (trait : Ghosts F) (old : F) where
-  -- a file was loaded and gave this, or memory ran out
+  -- a file was loaded from the files `old`, which left `new`, and `given` is what the load gave, or that memory ran out
   pub record GivesLoaded {X : Type 0} (file : FileName) (gives : Answer → Result X RunError) (given : Result X (List ℕ × RunError)) (new : F) : Type 0 where
     pub answer : Answer
     pub loads : LoadsFile trait old file.name.now answer new
@@ -85,30 +85,30 @@ module _ {F : Type 0} (trait : Ghosts F) (old : F) where
     pub spent : gives (Err load.NoMemory) ≡ Err error.NoMemory
     pub read : file.is_other_type ≡ false
 
-  -- a file was loaded and gave this, or memory ran out, or nothing was loaded, as the name is of another type
+  -- a file was loaded from the files `old`, which left `new`, and `given` is what it gave; or it was not loaded, as its name has a type that is not read
   abbrev pub GivesOf : {X : Type 0} → FileName → (Answer → Result X RunError) → Result X (List ℕ × RunError) → F → Type 0
   GivesOf file gives given new =
       GivesLoaded file gives given new
       ⊎ ((file.is_other_type ≡ true) × (new ≡ old) × (given ≡ Err (file.name.now, error.OtherType file.kind file.source)))
 
-  -- the files of a plan were loaded, and this is its effect by the results of the loads; or memory ran out
+  -- the files of a plan were held and loaded, which took them from `old` to `new`, and `effect` is what the plan comes to by the results; or memory ran out
   pub record Makes (plan : CommandPlan) (effect : Effect) (new : F) : Type 0 where
     pub answers : List Answer
     pub loads : Loaded trait plan old answers new
     pub made : IsSpent effect ⊎ (effect ≡ effect_by plan answers)
 
-  -- the files of a plan were loaded, and `Fairly` holds of the results, unless memory ran out
+  -- the files of a plan were held and loaded, from `old` to `new`, and `Fairly` holds of the results, unless memory ran out
   pub record MakesFairly (plan : CommandPlan) (Fairly : List Answer → Type 0) (effect : Effect) (new : F) : Type 0 where
     pub makes : Makes plan effect new
     pub fair : IsSpent effect ⊎ Fairly makes.answers
 
-  -- what was to be saved was saved, or the save failed, and this is left to show
+  -- what an effect saves was saved, or the save failed, which took the files from `old` to `new`; `end` is what is then left to print
   abbrev pub Settles : Effect → F → Effect → Type 0
   Settles (Saves file bytes out verdict) new end =
       (answer : Result (Unit {0}) SaveFault) × (SavesFile trait old file bytes answer new × (end ≡ saved_end file out verdict answer))
   Settles effect new end = (new ≡ old) × (end ≡ effect)
 
--- over honest files what is due was done; or the files are the same, as a call failed, counted, or memory ran out
+-- over honest files an effect was done in full; or the files are as before, since a call failed (which is counted) or memory ran out
 abbrev pub Keeps : {F : Type 0} → Ghosts F → Effect → F → F → Effect → Type 0
 Keeps trait due old new left =
     ((left ≡ settled due) × SameFiles (files_after (trait.file old) due) (trait.file new))
@@ -117,29 +117,29 @@ Keeps trait due old new left =
 
 -- ---- what is shown
 
--- a page was printed; or memory ran out before the end of one that takes memory
+-- a page was printed, from the output `out` to `out'`; or memory ran out before its end, if it takes memory
 abbrev pub ShowsPage : Watch → Watch → Ending → Page → Type 0
 ShowsPage out out' ending page =
     let run : Run = record { out = page.out; ending = page.ending } in
     Shows run out out' ending ⊎ (IsTrue page.takes × BreaksOff run out out' ending)
 
--- what is left to show was shown
+-- what an effect left to print was printed, from the output `out` to `out'`
 abbrev pub ShowsEnd : Watch → Watch → Ending → Effect → Type 0
 ShowsEnd out out' ending (Fails file why) = Shows (ends_by why) out out' ending
 ShowsEnd out out' ending (Displays file page) = ShowsPage out out' ending page
 ShowsEnd out out' ending (Saves file bytes out_ verdict) = ⊥
 
--- an effect shows a page that takes memory, or reports that it ran out
+-- an effect prints a page that takes memory, or reports that memory ran out
 abbrev pub Takes : Effect → Type 0
 Takes (Displays file page) = IsTrue (page.takes || is_spent page.ending)
 Takes effect = ⊥
 
--- what is reported of a save: what it left behind, if it is the run's own; and of a line of ktutil only if memory did not run out
+-- what is reported of what a save left behind, if the run saved; for a line of ktutil only if memory did not run out
 abbrev pub reported_aftermath : Option ℕ → Effect → Ending → Option Aftermath → Option Aftermath
 reported_aftermath None effect ending left = if is_save effect then left else None
 reported_aftermath (Some number) effect ending left = if is_save effect && not (is_spent ending) then left else None
 
--- an effect was done, at the end of a run or of that line of ktutil: what was to be saved was saved or its save failed, what was held was released, what was left to show was shown, and the end was reported
+-- an effect was done, at the end of a run or of a line of ktutil: saved, printed and reported, and the held file released; the files went from `old` to `new`, the outputs from `out` and `err` to `out'` and `err'`
 pub record Finishes {F : Type 0} (trait : Ghosts F) (line : Option ℕ) (effect : Effect) (old new : F) (out out' : Watch) (err err' : ErrorWatch) (end : RunEnd) : Type 0 where
   pub left : Effect
   pub done : F
@@ -152,7 +152,7 @@ pub record Finishes {F : Type 0} (trait : Ghosts F) (line : Option ℕ) (effect 
   pub honest : trait.is_honest new → trait.aftermath new ≡ None
 
 module _ {F R W E : Type 0} (trait : Ghosts F) (plan : Option ℕ → CommandPlan) (Fairly : List Answer → Type 0) (old new : World F R W E) where
-  -- a run of a command that ended so: its plan is that for the mode of the file that was loaded last; what it saves and prints and how it ends is a function of its calls' results
+  -- a run of a command with this plan ended with `end` and took the world from `old` to `new`: what it saved and printed is what the plan comes to by the results of its loads
   pub record EndsCommand (end : RunEnd) : Type 0 where
     pub effect : Effect
     pub made : F
@@ -165,28 +165,28 @@ module _ {F R W E : Type 0} (trait : Ghosts F) (plan : Option ℕ → CommandPla
     pub spared : end.ending ≡ Err error.NoMemory → trait.is_honest old.files → SameFiles (trait.file old.files) (trait.file new.files)
     pub quiet : end.ending ≡ Err error.NoMemory → Shows (ends_by error.NoMemory) old.out new.out end.ending ⊎ Takes finishes.left
 
-  -- a run of a command with that exit status
+  -- a run of a command took the world from `old` to `new`, with this exit status
   abbrev pub Runs : ℕ → Type 0
   Runs status = (ending : Ending) × EndsCommand (record { ending = ending; status = status })
 
 module _ {F R W E : Type 0} (trait : Ghosts F) (old new : World F R W E) (status : ℕ) where
-  -- an error ends a run before it does anything; there is no save that left something behind
+  -- a run ended with the error `why` before it did anything: it only reported the error
   abbrev pub EndsBefore : RunError → Type 0
   EndsBefore why = (new ≡ record old { err = new.err }) × ((details : Details) × ((details.aftermath ≡ None) × Reports [] None details (Err why) old.err new.err status))
 
-  -- a run that uses no file prints and reports what is due
+  -- a run that uses no file printed and reported what is due, which took the world from `old` to `new`
   abbrev pub Prints : Run → Type 0
   Prints due = (new ≡ record old { out = new.out; err = new.err }) × EndsRun [] None due old.out new.out old.err new.err status
 
-  -- a command is run with what it needs, once that was read; else the run ends with that error
+  -- a run of a command with what it needs, once that was read, or the error if it was not
   abbrev pub RunsWith : {X : Type 0} → (X → CommandPlan) → (X → List Answer → Type 0) → Result X RunError → Type 0
   RunsWith plan fairly (Ok x) = Runs trait (λ mode. plan x) (fairly x) old new status
   RunsWith plan fairly (Err why) = EndsBefore why
 
--- that plan, whatever the mode of the file is
+-- a plan that does not depend on the mode of the file
 unfoldable pub always : CommandPlan → Option ℕ → CommandPlan
 always plan mode = plan
 
--- nothing more is known of the results of the loads
+-- nothing more is known of the results of loads
 abbrev pub any : List Answer → Type 0
 any answers = Unit {0}

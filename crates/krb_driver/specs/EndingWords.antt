@@ -169,11 +169,11 @@ cause_by file line path (Some cause) = phrase_line line (cause_phrase cause)
 abbrev pub cause_words : List ℕ → Option ℕ → Details → List ℕ
 cause_words file line details = cause_by file line (option_map (λ path. path.now) details.in_the_way) details.cause
 
--- the words for a fault of that file, and a phrase
+-- the words of --explain for the fault of a file, with a phrase
 abbrev pub fault_with : List ℕ → Fault → List ℕ → List ℕ
 fault_with file fault what = codes "krbfile: " ++ (shown_name file ++ (codes ": fault " ++ (decimal (fault_number fault.kind) ++ (codes " at " ++ (decimal fault.place ++ (codes "\nkrbfile: " ++ (what ++ codes "\n")))))))
 
--- the words for the fault that a listing reports, with the file's name and the fault's phrase
+-- the words of --explain for the fault that a listing reports, with the file's name and the fault's phrase
 abbrev pub listed_words : List ℕ → Fault → List ℕ
 listed_words file fault = fault_with file fault (fault_phrase fault.kind)
 
@@ -202,7 +202,7 @@ abbrev pub word_line : FindingSet → Finding → List ℕ
 word_line explained finding =
     line_if (has explained finding) (codes "krbfile: " ++ ((row_of finding).word ++ (codes ": " ++ ((row_of finding).phrase ++ codes "\n"))))
 
--- the words for the fault that was found, if one was
+-- the words of --explain for the fault that was found, if one was
 unfoldable pub found_fault_words : List ℕ → Option Fault → List ℕ
 found_fault_words file None = []
 found_fault_words file (Some fault) = listed_words file fault
@@ -269,7 +269,7 @@ itemized_words file (Found findings) = found_words file findings
 itemized_words file (Judged judged) = flat_map (word_line judged.words) findings_about_tickets
 itemized_words file verdict = []
 
--- the words that explain the end of a run
+-- the words of --explain for the end of a run, as krbfile(1) describes them
 unfoldable pub ending_words : List ℕ → Option ℕ → Details → Ending → List ℕ
 ending_words file line details (Ok verdict) = verdict_words file line verdict ++ itemized_words file verdict
 ending_words file line details (Err error) = error_words file line details error

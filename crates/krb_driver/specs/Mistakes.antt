@@ -114,7 +114,7 @@ more_words (more.Help text) = text.now
 
 -- ---- the command line
 
--- the line of a mistake, with the reference to the help, and what follows
+-- the words of --explain for a mistake in a command line, as krbfile(1) describes them
 unfoldable pub mistake_words : Mistake → Option (List ℕ) → More → List ℕ
 mistake_words what command more = codes "krbfile: " ++ (mistake_line (mistake_parts what) ++ (help_of command ++ more_words more))
 

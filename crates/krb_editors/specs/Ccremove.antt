@@ -25,19 +25,20 @@ pub record TicketRemoval : Type 0 where
   pub expired : Bool
   pub dry_run : Bool
 
--- the time at or before which the selected tickets end: that of the clock, if only expired ones are selected
+-- the second of the clock, or the error if the clock was not read
 abbrev pub clock_time : Option ℕ → Result (Option ℕ) RunError
 clock_time None = Err ClockNotRead
 clock_time (Some now) = Ok (Some now)
 
+-- the second by which the selected tickets have ended: with `--expired` that of the clock, and otherwise none
 abbrev pub ended_by : TicketRemoval → Option ℕ → Result (Option ℕ) RunError
 ended_by o now = if o.expired then clock_time now else Ok None
 
--- the cache rewritten without the tickets at these places, so that their keys are not in the file any more
+-- a cache after the removal of tickets: they are removed and the cache is rewritten, so that their keys are not in the file any more
 abbrev pub cache_after : CacheState → List ℕ → CacheState
 cache_after k places = cut_store (without k places) (rewrite_result (without k places))
 
--- the verdict if no ticket is selected: no failure with `--expired`, if nothing else is asked for or some ticket is that; reported at the end of several files
+-- the verdict of ccremove if no ticket of a file is selected: with `--expired` all is well if nothing else is asked for, or a ticket that is asked for has not ended; else `refused 9`, reported at the end of several files
 abbrev pub none_verdict : Bool → TicketRemoval → Bool → Verdict
 none_verdict are_several o named =
     if o.expired && (((length o.servers == 0) && not o.all_services) || named) then Well
@@ -47,13 +48,13 @@ none_verdict are_several o named =
 abbrev pub places : List PlacedCredential → List ℕ
 places xs = map (λ x. x.0) xs
 
--- the tickets are removed, if there are any, and a line is printed for each
+-- what ccremove does with a cache: the tickets are removed, if there are any, and a line is printed for each
 abbrev pub removes : TicketRemoval → Bool → List ℕ → CacheState → List PlacedCredential → Effect
 removes o are_several file k xs =
     if length (places xs) == 0 then Displays file (text [] (none_verdict are_several o (list_any (λ x. names_ticket o.servers o.all_services x.1) (placed_credentials k))))
     else saves_unless o.dry_run file (image_of (cache_after k (places xs))) (flat_map (λ x. label_of are_several file ++ removed_ticket_line x) xs) Well
 
--- the file, one of several or not, is held, unless it is a dry run, and opened; the selected tickets of its cache are removed
+-- the plan of ccremove for a file, one of several or not: the file is held, unless it is a dry run, and opened as a cache; the selected tickets are removed
 abbrev pub ccremove_plan : TicketRemoval → Option ℕ → Bool → FileName → CommandPlan
 ccremove_plan o ended are_several file =
     holds (not o.dry_run) file (opens file writable_in (λ k. Ends (removes o are_several file.name.now k (selected_tickets o.servers o.all_services ended k))))

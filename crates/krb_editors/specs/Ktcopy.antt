@@ -29,39 +29,39 @@ pub record CopyParts : Type 0 where
   pub dry_run : Bool
   pub v1_order : Order
 
--- any kvno is selected
+-- a selection is of any kvno
 abbrev pub is_any_kvno : SelectedKvno → Bool
 is_any_kvno Any = true
 is_any_kvno kvno = false
 
--- a name, a kvno or an enctype is given
+-- a selection of ktcopy has a name, a kvno or an enctype
 abbrev pub asks_for_some : SelectionParts → Bool
 asks_for_some s = not (asks_for_any s) || not (is_any_kvno s.kvno)
 
--- entries are asked for, and there are none
+-- ktcopy was asked for some entries, and none is selected
 abbrev pub finds_none : SelectionParts → List PlacedEntry → Bool
 finds_none s xs = (length xs == 0) && asks_for_some s
 
--- the verdict of a run that copied entries and met no clash: it says from where on MIT's programs see none, if they miss a copy
+-- the verdict of ktcopy after copies without a clash: it reports the place from which on MIT's programs see no entry, if they miss a copy
 abbrev pub copied_verdict : Run → Verdict
 copied_verdict run = hiding (hides_added run.keytab run.places) Well
 
--- the lines of a run are printed, and its keytab is saved if something was copied; after a clash nothing is saved, and only a dry run prints more than the clashes
+-- what ktcopy does after its run: it prints the lines, and saves TO if something was copied; after a clash it saves nothing, and prints the clashes, in a dry run all lines
 abbrev pub copied_effect : CopyParts → List ℕ → Result Run Code → Effect
 copied_effect o to (Err code) = Fails to (Refused Keytab code)
 copied_effect o to (Ok run) =
     if has_lines run.clashes then Displays to (text (if o.dry_run then run.text else run.clashes) (Clashed o.replace))
     else (if has_lines run.text then saves_unless o.dry_run to (image_of run.keytab) run.text (copied_verdict run) else Displays to (text run.text Well))
 
--- TO is held, unless it is a dry run, and opened; the entries are copied into its keytab, under the new name if there is one
+-- ktcopy holds TO, unless it is a dry run, opens it, and copies entries into its keytab, under the new name if one is given
 abbrev pub copies_to : CopyParts → FileName → List PlacedEntry → CommandPlan
 copies_to o to xs = holds (not o.dry_run) to (opens to (whole_or_empty o.v1_order to.in_place) (λ k. Ends (copied_effect o to.name.now (copy_run o.replace (asked_as o.new_name xs) k))))
 
--- the entries are copied to TO, unless some are asked for and there are none
+-- ktcopy copies the entries of FROM to TO, unless some are asked for and none is selected
 abbrev pub copies_from : CopyParts → FileName → FileName → List PlacedEntry → CommandPlan
 copies_from o from to xs = if finds_none o.selection xs then Ends (Fails from.name.now NothingToCopy) else copies_to o to xs
 
--- FROM is opened, and the selected entries of its keytab are copied
+-- the plan of ktcopy: FROM is opened, and its selected entries are copied to TO
 abbrev pub ktcopy_plan : CopyParts → FileName → FileName → CommandPlan
 ktcopy_plan o from to = opens from (whole_in o.v1_order) (λ k. copies_from o from to (selected_in o.selection 0 k))
 

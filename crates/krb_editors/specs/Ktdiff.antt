@@ -21,28 +21,28 @@ pub record Comparison : Type 0 where
   pub selection : SelectionParts
   pub v1_order : Order
 
--- the verdict of a run that prints these lines: the keytabs have the same keys if there is none
+-- the verdict of ktdiff: the keytabs differ if a line is printed
 abbrev pub verdict_of : List ℕ → Verdict
 verdict_of [] = Well
 verdict_of (b ∷ others) = Differ
 
--- entries are asked for, and there are none on either side
+-- ktdiff was asked for some entries, and none is selected in A or in B
 abbrev pub finds_none : SelectionParts → List PlacedEntry → List PlacedEntry → Bool
 finds_none s xs ys = not (asks_for_any s) && ((length xs == 0) && (length ys == 0))
 
--- the entries asked for are compared, unless some are asked for and there are none
+-- ktdiff compares the selected entries of A and of B, unless some are asked for and none is selected
 abbrev pub compares : SelectionParts → List ℕ → List PlacedEntry → List PlacedEntry → Effect
 compares s ours xs ys = if finds_none s xs ys then Fails ours NothingToCopy else Displays ours (text (diff_text xs ys) (verdict_of (diff_text xs ys)))
 
--- the entries asked for of two keytabs are compared
+-- ktdiff compares two keytabs by their selected entries
 abbrev pub differs : Comparison → List ℕ → KeytabState → KeytabState → Effect
 differs o ours k j = compares o.selection ours (selected_in o.selection 0 k) (selected_in o.selection 0 j)
 
--- B is opened, and compared with the keytab of A
+-- ktdiff opens B and compares its keytab with that of A
 abbrev pub diffs_from : Comparison → FileName → FileName → KeytabState → CommandPlan
 diffs_from o ours others k = opens others (whole_in o.v1_order) (λ j. Ends (differs o ours.name.now k j))
 
--- A is opened, then B, and they are compared
+-- the plan of ktdiff: A is opened, then B, and their keytabs are compared
 abbrev pub ktdiff_plan : Comparison → FileName → FileName → CommandPlan
 ktdiff_plan o ours others = opens ours (whole_in o.v1_order) (diffs_from o ours others)
 

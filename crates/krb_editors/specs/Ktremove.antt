@@ -29,12 +29,12 @@ pub record Removal : Type 0 where
   pub dry_run : Bool
   pub v1_order : Order
 
--- old entries are selected
+-- old kvnos are selected
 abbrev pub asks_for_old : SelectedKvno → Bool
 asks_for_old (Old age) = true
 asks_for_old kvno = false
 
--- the verdict if no entry is selected: `refused 9`, reported at the end of several files; with `-k old` all is well if no name or enctype is given, or some entry has them
+-- the verdict of ktremove if no entry of a file is selected: with `-k old` all is well if no name or enctype is given, or an entry has them; else `refused 9`, reported at the end of several files
 abbrev pub none_verdict : Bool → SelectionParts → Bool → Verdict
 none_verdict are_several s has_named =
     if asks_for_old s.kvno && (asks_for_any s || has_named) then Well else (if are_several then Without else NothingToRemove Keytab)
@@ -43,18 +43,18 @@ none_verdict are_several s has_named =
 abbrev pub places : List PlacedEntry → List ℕ
 places xs = map (λ x. x.0) xs
 
--- the entries are removed, if there are any, and a line is printed for each
+-- what ktremove does with a keytab: the entries xs are removed, if there are any, and a line is printed for each
 abbrev pub removes : Removal → Bool → List ℕ → KeytabState → List PlacedEntry → Effect
 removes o are_several file k xs =
     if length (places xs) == 0 then Displays file (text [] (none_verdict are_several o.selection (list_any (λ x. is_named o.selection x.1) (placed_entries k))))
     else saves_unless o.dry_run file (image_of (without k (places xs))) (flat_map (λ x. label_of are_several file ++ removed_line x) xs) Well
 
--- the file, one of several or not, is held, unless it is a dry run, and opened; the selected entries of its keytab are removed
+-- the plan of ktremove for a file, one of several or not: the file is held, unless it is a dry run, and opened as a keytab; the selected entries are removed
 abbrev pub ktremove_plan : Removal → ℕ → Bool → FileName → CommandPlan
 ktremove_plan o now are_several file =
     holds (not o.dry_run) file (opens file (whole_in o.v1_order) (λ k. Ends (removes o are_several file.name.now k (selected_in o.selection now k))))
 
--- the time, if the selection needs it, and otherwise 0
+-- the second by which kvnos are selected: that of the clock if an age is given, and otherwise 0
 abbrev pub needed_time : SelectedKvno → Option ℕ → Result ℕ RunError
 needed_time kvno now = if needs_clock kvno then ok_or now ClockNotRead else Ok 0
 

@@ -10,7 +10,7 @@ use Rattle.krb_driver.specs.Loading.{result_map}
 use Rattle.krb_driver.specs.Mistakes.{Matched, MistakeParts, no_version}
 use Rattle.krb_driver.specs.Spelled.{◌>>=◌, each, printed_name, spelled_etype, spelled_name}
 
--- neither a name nor an enctype is given
+-- a selection has neither a name nor an enctype
 abbrev pub asks_for_any : SelectionParts → Bool
 asks_for_any s = (length s.names == 0) && (length s.enctypes == 0)
 

@@ -41,36 +41,38 @@ use Rattle.krb_files.specs.Loading.{Answer, LoadsFile, most_bytes}
 use Rattle.krb_readers.specs.declared.klist.ticket_check.TicketCheck.{TicketCheck}
 use Rattle.krb_readers.specs.declared.klist.ticket_check.SeenTickets.{SeenTickets as Seen}
 
--- what comes before a listing, but not before JSON: an empty line, if it is after another one
+-- the empty line before a listing, after another listing; JSON has none
 abbrev pub gap : Bool → Bool → List ℕ
 gap json is_after = if json then [] else (if is_after then codes "\n" else [])
 
--- what is printed of a file: one JSON object, or its listing
+-- what klist prints of a keytab: a line of JSON, or its listing
 abbrev pub keytab_shown : Bool → KtColumns → List ℕ → KeytabState → List ℕ
 keytab_shown json columns file k = if json then keytab_json_text file columns.keys k else list_text columns file k
 
+-- what klist prints of a cache: a line of JSON, or its listing
 abbrev pub cache_shown : Bool → CcColumns → List ℕ → CacheState → List ℕ
 cache_shown json columns file k = if json then cache_json_text file k else cache_text columns file k
 
--- the page of what is printed, after others or not; the listing of a damaged file reports the fault
+-- what klist prints of a file, after an empty line if another listing was before; the end reports the fault of a damaged file
 abbrev pub page : Bool → Bool → List ℕ → Option Fault → Page
 page json is_after shown fault = record { out = gap json is_after ++ shown; ending = Ok (listing_verdict fault); takes = true }
 
--- the file is opened as that kind and printed
+-- the plan of klist for a file: it is opened as a keytab or a cache, and its listing is printed
 abbrev pub listing_plan : ListKind → Bool → Order → Bool → FileName → CommandPlan
 listing_plan (Keytab columns) json order is_after file =
     opens file (listed_in order) (λ k. Ends (Displays file.name.now (page json is_after (keytab_shown json columns file.name.now k) (fault_of (store_of k)))))
 listing_plan (Cache columns) json order is_after file =
     opens file cache_of (λ k. Ends (Displays file.name.now (page json is_after (cache_shown json columns file.name.now k) (fault_of (cache_store k)))))
 
+-- the plan of klist for a file, by its options
 abbrev pub klist_plan : KlistOptions → Bool → FileName → CommandPlan
 klist_plan o is_after file = listing_plan o.kind o.json o.v1_order is_after file
 
--- something was printed, once a file's listing has ended so
+-- klist has printed a listing, of the file whose run has just ended or of one before
 abbrev pub printed_after : Bool → RunEnd → Bool
 printed_after printed end = is_ok end.ending || printed
 
--- files are listed one after the other, with the greatest status
+-- a run of klist over files `names` took the world from `old` to `new` with this status: the files were listed one after the other, and the greatest status counts
 pub record ListsAll {F R W E : Type 0} (trait : Ghosts F) (o : KlistOptions) (old new : World F R W E) (status : ℕ) (names : List FileName) : Type 0 where
   pub printed : Bool
   pub over : RunsOver trait (λ is_after file. always (klist_plan o is_after file)) printed_after names (first_round false old) (record { world = new; state = printed; status = status })
@@ -157,37 +159,37 @@ tgs_of realm = record { name_type = 2; realm = realm; components = codes "krbtgt
 abbrev pub is_ticket : PlacedCredential → Bool
 is_ticket x = not (is_config x.1)
 
--- a credential is a ticket-granting ticket of that realm
+-- a credential is a ticket-granting ticket of a realm
 abbrev pub is_tgt : List ℕ → PlacedCredential → Bool
 is_tgt realm x = is_ticket x && have_same_name x.1.server (tgs_of realm)
 
--- the later of two times, where there are both
+-- the later of two times, or the only one
 abbrev pub later : Option ℕ → Option ℕ → Option ℕ
 later None other = other
 later (Some time) None = Some time
 later (Some time) (Some other) = Some (max time other)
 
--- the latest end of those credentials that a rule holds of
+-- the latest end of the credentials of which a rule holds
 abbrev pub latest : (PlacedCredential → Bool) → List PlacedCredential → Option ℕ
 latest of [] = None
 latest of (x ∷ xs) = later (if of x then Some x.1.times.endtime else None) (latest of xs)
 
--- the end of what a cache has to go on with: the latest of the ticket-granting tickets of the default principal's realm, or of all tickets if there are none of those
+-- when the tickets of a cache end: the latest end of the ticket-granting tickets of its default principal's realm, or of all tickets if there is no ticket-granting one
 abbrev pub last_end : CacheState → Option ℕ
 last_end k = option_or (latest (is_tgt k.principal.realm) (placed_credentials k)) (latest is_ticket (placed_credentials k))
 
--- a cache has a ticket to go on with after that second
+-- a cache has a ticket-granting ticket, or else a ticket, that is valid after a second
 abbrev pub has_ticket : ℕ → CacheState → Bool
 has_ticket time k = option_map_or (λ end. nat_lt time end) (last_end k) false
 
 -- ---- the run
 
--- the status for a cache: 0 if it has such a ticket, and otherwise 1, as for what is no cache
+-- the status of `klist -s` for an image: 0 if it is a cache with a ticket that is valid after a second, and otherwise 1
 abbrev pub opened_status : ℕ → Result CacheState CcOpenFault → ℕ
 opened_status time (Ok k) = if has_ticket time k then 0 else 1
 opened_status time (Err fault) = 1
 
--- the status by the result of the load
+-- the status of `klist -s` by the result of loading the file
 abbrev pub check_status : ℕ → Answer → ℕ
 check_status time (Ok image) = opened_status time (open_result most_bytes image)
 check_status time (Err load.NoMemory) = 4
@@ -195,17 +197,17 @@ check_status time (Err load.Failed) = 3
 check_status time (Err fault) = 1
 
 module _ {F : Type 0} (trait : Ghosts F) (file : FileName) (old new : F) (status : ℕ) where
-  -- the file was loaded, and the status is that for the result of the load
+  -- `klist -s` loaded the file from the files `old`, which left `new`, and the status is by the result of the load
   pub record LoadsAndChecks (time : ℕ) : Type 0 where
     pub answer : Answer
     pub loads : LoadsFile trait old file.name.now answer new
     pub status_is : status ≡ check_status time answer
 
-  -- a file of another type is not loaded
+  -- a file whose name has a type that is not read was not loaded, and the status is 1
   abbrev pub ChecksNothing : Type 0
   ChecksNothing = (file.is_other_type ≡ true) × (new ≡ old) × (status ≡ 1)
 
-  -- a run with the seconds of the clock; if it was not read, nothing is loaded
+  -- a run of `klist -s` at a second of the clock took the files from `old` to `new` with this status; if the clock was not read nothing is loaded
   abbrev pub RunsTicketCheck : TicketCheck → Option ℕ → Type 0
   RunsTicketCheck check None = (new ≡ old) × (status ≡ 3)
   RunsTicketCheck check (Some now) = ChecksNothing ⊎ ((file.is_other_type ≡ false) × LoadsAndChecks (now + check.seconds))

@@ -27,36 +27,36 @@ use Rattle.krb_readers.specs.KtcheckWords.{KeytabCheck}
 
 -- ---- a file
 
--- the findings that are left out: with `-q` those that do not count for the status
+-- the findings that ktcheck leaves out: with `-q` those that do not count for the status
 abbrev pub left_out : KeytabCheck → CheckParts → FindingSet
 left_out o c = if o.quiet then uncounted c.mode o.allowed else none
 
--- nothing is printed of a file: with `-q` if nothing is wrong
+-- ktcheck prints nothing of a file: with `-q`, if nothing is wrong
 abbrev pub is_silent : KeytabCheck → CheckParts → Bool
 is_silent o c = o.quiet && not (is_wrong o.allowed c)
 
--- the verdict: the findings to explain are those that are not left out and were not explained before, and what is allowed is not wrong
+-- the verdict of ktcheck on a file: the findings that are yet to be explained, and whether something is wrong that is not allowed
 abbrev pub found_verdict : KeytabCheck → FindingSet → CheckParts → Verdict
 found_verdict o explained c =
     Found (record { words = without (findings_of c) (joined (left_out o c) explained); weak_etypes = c.weak_etypes; fault = c.fault; is_wrong = is_wrong o.allowed c; v1_order = o.v1_order })
 
--- what the lines of a file begin with: its name, if there are several files or the options ask for it
+-- the lines of ktcheck begin with the name of the file: if there are several files, or by `-H`
 abbrev pub has_names : KeytabCheck → Bool → Bool
 has_names o are_several = o.with_filename || are_several
 
--- what is found about a keytab in a plain file with this mode
+-- what ktcheck finds in a keytab, by its options, the time by which entries are aged and the mode of the file
 abbrev pub found : KeytabCheck → Option ℕ → Option ℕ → KeytabState → CheckParts
 found o aged_by mode k = checked mode aged_by o.wanted k
 
--- the lines of a file, each after a label
+-- the lines of ktcheck for a file, each after a label
 abbrev pub lines_of : KeytabCheck → List ℕ → CheckParts → List ℕ
 lines_of o label c = if is_silent o c then [] else report label (left_out o c) c
 
--- the page of what is found, by lines
+-- what ktcheck prints of a keytab as lines
 abbrev pub lines_page : KeytabCheck → Bool → FindingSet → List ℕ → CheckParts → Page
 lines_page o are_several explained file c = text (lines_of o (label_of (has_names o are_several) file) c) (found_verdict o explained c)
 
--- the page of what is found, as one JSON object, from which nothing is left out
+-- what ktcheck prints of a keytab as one JSON object, which has all findings
 abbrev pub object_page : KeytabCheck → FindingSet → List ℕ → CheckParts → Page
 object_page o explained file c = record {
   out = if is_silent o c then [] else check_json_text file c (verdict_status (found_verdict o explained c));
@@ -64,14 +64,15 @@ object_page o explained file c = record {
   takes = true;
 }
 
+-- what ktcheck prints of a keytab: a JSON object, or lines
 abbrev pub page_of : KeytabCheck → Bool → FindingSet → List ℕ → CheckParts → Page
 page_of o are_several explained file c = if o.json then object_page o explained file c else lines_page o are_several explained file c
 
--- the page of a file that gave no keytab
+-- what ktcheck prints with `--json` of a file that gave no keytab
 abbrev pub refused_page : List ℕ → RunError → Page
 refused_page file why = record { out = refused_json_text file (said_of_file why) (error_status why); ending = Err why; takes = true }
 
--- the effect of an error: JSON has an object for the file, unless memory ran out
+-- what an error of a file comes to: with `--json` an object for the file, unless memory ran out
 abbrev pub refused_effect : Bool → List ℕ → RunError → Effect
 refused_effect json file NoMemory = Fails file NoMemory
 refused_effect json file why = if json then Displays file (refused_page file why) else Fails file why
@@ -86,7 +87,7 @@ file_page object (page.Refused why) file = refused_page file why
 abbrev pub check_page : {A B : Type 0} → CheckObject A B → List ℕ → Page
 check_page j file = object_page j.options.now j.explained file (found j.options.now j.aged_by j.mode j.keytab.state)
 
--- a file is tried, and what is found about its keytab is shown
+-- the plan of ktcheck for a file: it is opened as a keytab, and what is found is printed
 abbrev pub plan_of : KeytabCheck → Option ℕ → Bool → FindingSet → FileName → Option ℕ → CommandPlan
 plan_of o aged_by are_several explained file mode =
     tries file (keytab_in o.v1_order)
@@ -100,27 +101,27 @@ abbrev pub explained_by : Ending → FindingSet
 explained_by (Ok (Found findings)) = findings.words
 explained_by ending = none
 
--- the findings that were explained once a file's check has ended so
+-- the findings that are explained once the check of one file more has ended
 abbrev pub explained_after : FindingSet → RunEnd → FindingSet
 explained_after explained end = joined explained (explained_by end.ending)
 
--- the second by which an entry is aged, if an age is given and the clock is not below it
+-- the second by which entries are aged: the clock less the age, if `--older` gives one and the clock is not below it; an age needs the clock
 abbrev pub aged_by : Option ℕ → Option ℕ → Result (Option ℕ) RunError
 aged_by None now = Ok None
 aged_by (Some seconds) None = Err ClockNotRead
 aged_by (Some seconds) (Some now) = Ok (if nat_le seconds now then Some (now - seconds) else None)
 
 module _ {F R W E : Type 0} (trait : Ghosts F) (o : KeytabCheck) (old new : World F R W E) (status : ℕ) (names : List FileName) where
-  -- a run over files; it ends with the greatest status
+  -- a run of ktcheck over files `names` took the world from `old` to `new`, and the greatest status counts
   pub record ChecksBy (by : Option ℕ) : Type 0 where
     pub explained : FindingSet
     pub over : RunsOver trait (plan_of o by (nat_lt 1 (length names))) explained_after names (first_round none old) (record { world = new; state = explained; status = status })
 
-  -- the same, unless the clock is needed and was not read
+  -- a run of ktcheck, or an error before it, if the clock is needed and was not read
   abbrev pub ChecksWith : Result (Option ℕ) RunError → Type 0
   ChecksWith (Ok by) = ChecksBy by
   ChecksWith (Err why) = EndsBefore trait old new status why
 
--- files are checked at that time
+-- a run of ktcheck at a second of the clock took the world from `old` to `new` with this status
 abbrev pub ChecksAll : {F R W E : Type 0} → Ghosts F → KeytabCheck → Option ℕ → World F R W E → World F R W E → ℕ → List FileName → Type 0
 ChecksAll trait o now old new status names = ChecksWith trait o old new status names (aged_by o.older now)

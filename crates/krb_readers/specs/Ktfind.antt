@@ -24,16 +24,16 @@ pub record EntrySought : Type 0 where
   pub enctype : ℕ
   pub v1_order : Order
 
--- the line of an entry that was found, or why none was
+-- what ktfind does: it prints the line of the entry that was found, or reports why none was
 abbrev pub found : List ℕ → Result PlacedEntry Code → Effect
 found file (Ok entry) = Displays file (text (found_line entry) Well)
 found file (Err code) = Fails file (Refused Keytab code)
 
--- an entry is looked up in the keytab of a file
+-- ktfind looks up an entry in a keytab and prints it
 abbrev pub finds : EntrySought → List ℕ → KeytabState → Effect
 finds o file k = found file (find_result k o.name o.kvno o.enctype)
 
--- the file is opened, and an entry is looked up in its keytab
+-- the plan of ktfind: the file is opened as a keytab, and an entry is looked up
 abbrev pub ktfind_plan : EntrySought → FileName → CommandPlan
 ktfind_plan o file = opens file (keytab_in o.v1_order) (λ k. Ends (finds o file.name.now k))
 

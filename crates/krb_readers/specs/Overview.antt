@@ -19,7 +19,7 @@ use Rattle.krb_driver.specs.Spelled.{◌>>◌}
 use Rattle.krb_driver.specs.Several.{RunsOver, first_round}
 use Rattle.krb_readers.specs.Klist.{apart, has_ticket, is_ticket, last_end, odd_columns, odd_seconds}
 
--- what comes before the lines of caches; nothing before JSON
+-- the heading of `klist -l`; JSON has none
 abbrev pub heading : Bool → List ℕ
 heading json =
     if json then [] else codes "Principal name                 Cache name\n--------------                 ----------\n"
@@ -28,7 +28,7 @@ heading json =
 abbrev pub padded : List ℕ → List ℕ
 padded text = text ++ drop (length text) (codes "                              ")
 
--- what JSON has of a cache at that second: its number of tickets, up to the greatest of 64 bits, and what it has to go on with
+-- what the JSON of `klist -l` has of a cache at a second: how many tickets it has (up to 2 ^ 64 - 1), when they end, and whether they have
 abbrev pub summary_of : ℕ → CacheState → CacheSummary
 summary_of now k = record {
   tickets = min (2 ^ 64 - 1) (length (filter is_ticket (placed_credentials k)));
@@ -36,28 +36,28 @@ summary_of now k = record {
   is_expired = not (has_ticket now k);
 }
 
--- the line of a cache at that second: its default principal, its file, and whether it has nothing to go on with; or its JSON
+-- the line of `klist -l` for a cache at a second: its default principal, its file, and whether its tickets have ended; or its JSON
 abbrev pub overview_text : Bool → ℕ → List ℕ → CacheState → List ℕ
 overview_text json now file k =
     if json then summary_text file k.principal (summary_of now k)
     else padded (name_text k.principal) ++ (codes " FILE:" ++ (shown_name file ++ ((if has_ticket now k then [] else codes " (Expired)") ++ codes "\n")))
 
--- that line is printed; a fault of the cache is none here
+-- what `klist -l` prints of a cache; its fault is not reported
 abbrev pub surveys : Bool → ℕ → List ℕ → CacheState → Effect
 surveys json now file k = Displays file (text (overview_text json now file k) Well)
 
--- a file is opened as a cache, and its line is printed
+-- the plan of `klist -l` for a file: it is opened as a cache, and its line is printed
 abbrev pub overview_plan : Bool → ℕ → FileName → CommandPlan
 overview_plan json now file = opens file cache_of (λ k. Ends (surveys json now file.name.now k))
 
 module _ {F R W E : Type 0} (trait : Ghosts F) (json : Bool) (names : List FileName) (old new : World F R W E) (status : ℕ) where
-  -- after the heading: a line for each file, if the clock was read
+  -- after the heading `klist -l` printed a line for each file, if the clock was read
   abbrev pub SurveysAt : Option ℕ → Type 0
   SurveysAt None = EndsBefore trait old new status ClockNotRead
   SurveysAt (Some now) = RunsOver trait (λ state file. always (overview_plan json now file)) (λ state end. state) names (first_round (tt {0}) old) (record { world = new; state = tt {0}; status = status })
 
 module _ {F R W E : Type 0} (trait : Ghosts F) (json : Bool) (now : Option ℕ) (old new : World F R W E) (status : ℕ) (names : List FileName) where
-  -- the heading is printed, which ends the run if the output fails, and then a line for each file
+  -- a run of `klist -l` took the world from `old` to `new` with this status: the heading was printed, and then a line for each file, unless the output failed
   pub record SurveysAll : Type 0 where
     pub between : World F R W E
     pub head : ℕ

@@ -20,30 +20,30 @@ use Rattle.krb_driver.specs.Several.{RunsOver, first_round}
 use Rattle.krb_readers.specs.declared.show.words.ShowOptions.{ShowOptions}
 use Rattle.krb_readers.specs.Klist.{gap, printed_after}
 
--- what is shown of a file of that name, as it is printed, at that second
+-- what show prints of a keytab or a cache in the file of a name, at a second
 abbrev pub view_of : List ℕ → ℕ → EitherState → List ℕ
 view_of name now (OfKeytab k) = keytab_view name now k
 view_of name now (OfCache k) = cache_view name now k
 
--- the block of a file: what is shown of it, after an empty line if another block was printed before
+-- what show prints of a file, after an empty line if another was before
 abbrev pub block : ℕ → Bool → List ℕ → EitherState → List ℕ
 block now is_after file k = gap false is_after ++ view_of (shown_name file) now k
 
--- the block is printed, and reports the fault of a damaged file
+-- what show does with a file: it prints the file, and reports the fault of a damaged one
 abbrev pub shows : ℕ → Bool → List ℕ → EitherState → Effect
 shows now is_after file k = Displays file (text (block now is_after file k) (listing_verdict (damage_of k)))
 
--- a file is opened as a keytab or a cache, and shown
+-- the plan of show for a file: it is opened as a keytab or a cache, and printed
 abbrev pub show_plan : Order → ℕ → Bool → FileName → CommandPlan
 show_plan order now is_after file = opens file (contents_in order) (λ k. Ends (shows now is_after file.name.now k))
 
 module _ {F R W E : Type 0} (trait : Ghosts F) (order : Order) (old new : World F R W E) (status : ℕ) (names : List FileName) where
-  -- files are shown one after the other, with the greatest status
+  -- a run of show at a second took the world from `old` to `new`: files were shown one after the other, and the greatest status counts
   pub record ShowsAt (now : ℕ) : Type 0 where
     pub printed : Bool
     pub over : RunsOver trait (λ is_after file. always (show_plan order now is_after file)) printed_after names (first_round false old) (record { world = new; state = printed; status = status })
 
-  -- the same, unless the clock was not read
+  -- a run of show took the world from `old` to `new` with this status, at the clock's second if the clock was read
   abbrev pub ShowsAll : Option ℕ → Type 0
   ShowsAll None = EndsBefore trait old new status ClockNotRead
   ShowsAll (Some now) = ShowsAt now

@@ -13,7 +13,7 @@ words-preserved g c =
     let is = c.in_ok-name.ensures in (
       mistakes_left printed_name c.values-words.result.now c.words.word-index _ c.words-test.true (no_mistake vec_items _ c.in_ok-name.name is) c.words.invariant.0,
       values_more printed_name c.values-words.result.now c.words.word-index _ c.words-test.true (λ names. map vec_items names.items) vec_items (λ all given v is. ap (map vec_items) is ∙ map_push vec_items given.items v)
-      c.words.names c.in_ok-name.name c.added-names.result c.words.invariant.1 (value_if_ok vec_items _ c.in_ok-name.name is) c.added-names.ensures,
+          c.words.names c.in_ok-name.name c.added-names.result c.words.invariant.1 (value_if_ok vec_items _ c.in_ok-name.name is) c.added-names.ensures,
     )
 
 pub returns-in_err-name : goal.returns-in_err-name
