@@ -239,7 +239,8 @@ impl<A: Allocator + Copy, B: Allocator> OverFiles<A> for RemoveTickets<'_, B> {
         file: FileName<'f>,
         files: &mut F,
     ) -> MakeResult<'f, A, Output<A>> {
-        hold_if(!self.options.dry_run, files, file);
+        let options = self.options;
+        hold_if(!options.dry_run, files, file);
         let cache = open_writable(alloc, files, file)?;
         remove(alloc, self, file, cache)
     }

@@ -193,15 +193,16 @@ fn made<'a, A: Allocator + Copy, B: Allocator>(
         places,
         keytab,
     } = copied;
+    let options = command.options;
     if !clashes.is_empty() {
-        return Ok(Made::Shows(clashed(command.options, text, clashes)));
+        return Ok(Made::Shows(clashed(options, text, clashes)));
     }
     if text.is_empty() {
         let verdict = Verdict::Well;
         return Ok(Made::Shows(Output { text, verdict }));
     }
     let output = copied_output(&keytab, &places, text);
-    if command.options.dry_run {
+    if options.dry_run {
         return Ok(Made::Shows(output));
     }
     Ok(Made::Saves(keytab.into_image(), output))
@@ -218,8 +219,14 @@ fn copy<'a, A: Allocator + Copy, B: Allocator>(
         (copy_run command.now.options.now.replace
         (asked_as command.now.options.now.new_name entries.now) to.state)) (text_effect command.now.to.name.now result) }
 {
-    let new_name = command.options.new_name.as_ref();
-    match copy_into(alloc, entries, new_name, to, command.options.replace) {
+    let options = command.options;
+    match copy_into(
+        alloc,
+        entries,
+        options.new_name.as_ref(),
+        to,
+        options.replace,
+    ) {
         Ok(copied) => made(command, copied),
         Err(Refusal::Code(code)) => Err(FileError {
             file: command.to.name,
@@ -239,8 +246,9 @@ fn copy_to<'a, A: Allocator + Copy, B: Allocator, F: Files>(
     ensures { Makes F.Files files.old (copies_to command.now.options.now command.now.to entries.now)
         (text_effect command.now.to.name.now result) files.new }
 {
-    hold_if(!command.options.dry_run, files, command.to);
-    let to = open_whole_or_empty(alloc, command.options.v1_order, files, command.to)?;
+    let options = command.options;
+    hold_if(!options.dry_run, files, command.to);
+    let to = open_whole_or_empty(alloc, options.v1_order, files, command.to)?;
     copy(alloc, command, entries, to)
 }
 
@@ -255,7 +263,8 @@ fn copy_from<'a, A: Allocator + Copy, B: Allocator, F: Files>(
     ensures { Makes F.Files files.old (copies_from command.now.options.now command.now.from command.now.to
         (selected_in command.now.options.now.selection 0 from.now.state)) (text_effect command.now.to.name.now result) files.new }
 {
-    let selection = &command.options.selection;
+    let options = command.options;
+    let selection = &options.selection;
     let entries = selected_entries(alloc, from, selection)?;
     if finds_none(selection, &entries) {
         return Err(FileError {
@@ -280,7 +289,8 @@ impl<'f, A: Allocator + Copy, B: Allocator> Command<A> for CopyEntries<'f, B> {
     }
 
     fn make<F: Files>(&self, alloc: A, files: &mut F) -> MakeResult<'_, A, Self::Shown> {
-        let from = open_whole(alloc, self.options.v1_order, files, self.from)?;
+        let options = self.options;
+        let from = open_whole(alloc, options.v1_order, files, self.from)?;
         copy_from(alloc, self, &from, files)
     }
 }

@@ -124,7 +124,8 @@ fn differ<'a, A: Allocator + Copy, B: Allocator>(
     ensures { IsMade (differs command.now.options.now command.now.ours.name.now ours.now.state others.now.state)
         (text_effect command.now.ours.name.now result) }
 {
-    let selection = &command.options.selection;
+    let options = command.options;
+    let selection = &options.selection;
     let ours = selected_entries(alloc, ours, selection)?;
     let others = selected_entries(alloc, others, selection)?;
     if finds_none(selection, &ours, &others) {
@@ -150,7 +151,8 @@ fn differ_from<'a, A: Allocator + Copy, B: Allocator, F: Files>(
     ensures { Makes F.Files files.old (diffs_from command.now.options.now command.now.ours command.now.others ours.now.state)
         (text_effect command.now.ours.name.now result) files.new }
 {
-    let others = open_whole(alloc, command.options.v1_order, files, command.others)?;
+    let options = command.options;
+    let others = open_whole(alloc, options.v1_order, files, command.others)?;
     differ(alloc, command, ours, &others)
 }
 
@@ -168,7 +170,8 @@ impl<'f, A: Allocator + Copy, B: Allocator> Command<A> for DiffEntries<'f, B> {
     }
 
     fn make<F: Files>(&self, alloc: A, files: &mut F) -> MakeResult<'_, A, Self::Shown> {
-        let ours = open_whole(alloc, self.options.v1_order, files, self.ours)?;
+        let options = self.options;
+        let ours = open_whole(alloc, options.v1_order, files, self.ours)?;
         differ_from(alloc, self, &ours, files)
     }
 }

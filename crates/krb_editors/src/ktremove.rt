@@ -239,8 +239,9 @@ impl<A: Allocator + Copy, B: Allocator> OverFiles<A> for RemoveEntries<'_, B> {
         file: FileName<'f>,
         files: &mut F,
     ) -> MakeResult<'f, A, Output<A>> {
-        hold_if(!self.options.dry_run, files, file);
-        let keytab = open_whole(alloc, self.options.v1_order, files, file)?;
+        let options = self.options;
+        hold_if(!options.dry_run, files, file);
+        let keytab = open_whole(alloc, options.v1_order, files, file)?;
         remove(alloc, self, file, keytab)
     }
 

@@ -81,6 +81,7 @@ pub fn spelled_selection<'a, M: Matches<'a>>(
 }
 
 /// Returns the new name of what is copied, if one is given.
+#[tactic(auto, using(krb_driver::proofs::Spelled::mapped_err))]
 pub fn spelled_new_name<'a, M: Matches<'a>>(
     alloc: Global,
     matches: &M,

@@ -1,9 +1,23 @@
--- What words spell, joined word by word.
-use Rattle.std.proofs.Common.{◌≡◌, ℕ, ◌+◌, ◌<◌, List, ◌∷◌, length, map, drop, get_or, fold, Bor, Result, Ok, Err, refl, sym, ap, ◌∙◌}
+-- What the words of a command spell, one after the other.
+use Rattle.std.proofs.Common.{◌≡◌, ℕ, ◌+◌, ◌<◌, List, ◌∷◌, length, map, drop, get_or, fold, Bor, Option, None, Result, Ok, Err, refl, sym, ap, ◌∙◌}
 use Rattle.std.proofs.lemmas.List.{drop_more}
 use Rattle.krb_driver.specs.Loading.{result_map}
 use Rattle.krb_driver.specs.Mistakes.{MistakeParts}
-use Rattle.krb_driver.specs.Spelled.{◌>>=◌, each}
+use Rattle.krb_driver.specs.Spelled.{◌>>=◌, ◌>>◌, each}
+use Rattle.std.specs.Result.{result_err}
+
+-- what follows two mistakes that are not there
+pub no_mistakes : {X : Type 0} (a b : Option MistakeParts) (then_ : Result X MistakeParts) → a ≡ None → b ≡ None → (a >> (b >> then_)) ≡ then_
+no_mistakes a b then_ ea eb = rw (ea, eb) refl
+
+-- what follows two words that spell values
+pub two_words : {X Y Z : Type 0} (a : Result X MistakeParts) (b : Result Y MistakeParts) (next : X → Y → Result Z MistakeParts) (x : X) (y : Y) → a ≡ Ok x → b ≡ Ok y → (a >>= (λ v. b >>= next v)) ≡ next x y
+two_words a b next x y ea eb = rw (ea, eb) refl
+
+-- a value that is put into another has its mistake
+pub put_err : {X Y : Type 0} (r : Result X MistakeParts) (put : X → Y) → result_err (r >>= (λ v. Ok (put v))) ≡ result_err r
+put_err (Ok v) put = refl
+put_err (Err m) put = refl
 
 module _ {X Y : Type 0} (g : Y → X → Y) (a : Y) where
   fold_cons : (v : X) (s : Result (List X) MistakeParts) → result_map (fold g a) (s >>= (λ vs. Ok (v ∷ vs))) ≡ result_map (fold g (g a v)) s

@@ -39,7 +39,8 @@ fn shown<'a, 'c, A: Allocator + Copy, B: Allocator>(
     ensures { IsMade (Displays file.entry.name.now (page_of object.entry.options.now are_several object.entry.explained file.entry.name.now
         (found object.entry.options.now object.entry.aged_by object.entry.mode object.entry.keytab.state))) (made_effect (file_page check_page) file.entry.name.now result) }
 {
-    if object.options.json {
+    let options = object.options;
+    if options.json {
         return Ok(Made::Shows(FilePage::Object(object)));
     }
     let lines = check_lines(alloc, &object, are_several, file)?;
@@ -73,12 +74,13 @@ impl<'c, A: Allocator + Copy, B: Allocator> OverFiles<A> for CheckFiles<'c, B> {
         file: FileName<'f>,
         files: &mut F,
     ) -> MakeResult<'f, A, FilePage<A, CheckObject<'c, A, B>>> {
-        let keytab = match try_keytab(alloc, self.options.v1_order, files, file) {
+        let options = self.options;
+        let keytab = match try_keytab(alloc, options.v1_order, files, file) {
             Ok(keytab) => keytab,
-            Err(why) => return refused(self.options.json, file, why),
+            Err(why) => return refused(options.json, file, why),
         };
         let object = CheckObject {
-            options: self.options,
+            options,
             aged_by: self.aged_by,
             explained,
             mode: files.mode(),

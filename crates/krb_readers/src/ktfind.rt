@@ -2,13 +2,13 @@
 
 ghost use Rattle.krb_driver.specs.Commands.{Runs, always, any, IsMade};
 ghost use Rattle.krb_driver.specs.Composing.{text_effect};
-ghost use Rattle.krb_readers.specs.Ktfind.{entry_sought_of, finds, ktfind_plan};
-ghost use Rattle.krb_driver.specs.Spelled.{ReadsAs};
+ghost use Rattle.krb_readers.specs.Ktfind.{entry_sought_of, finds, ktfind_plan, spelled_version};
+ghost use Rattle.krb_driver.specs.Spelled.{ReadsAs, Spells};
 
 use krb_driver::{
-    Command, CommandName, CommandWords, FileError, FileName, Made, MakeResult, Matches, Output,
-    Phrase, RunError, V1_BIG, Verdict, Word, WordFault, World, open_keytab, run, spelled_etype,
-    spelled_name, v1_order,
+    Command, CommandName, CommandWords, FileError, FileName, Made, MakeResult, Matches, Mistake,
+    Output, Phrase, RunError, V1_BIG, Verdict, Word, WordFault, World, open_keytab, run,
+    spelled_etype, spelled_name, v1_order,
 };
 use krb_files::Files;
 use krb_keytab::Keytab;
@@ -71,6 +71,16 @@ impl<A: Allocator> Model for FindOptions<A> {
     } };
 }
 
+// Parses a word as a kvno.
+fn spelled_version<'a>(word: &'a str) -> Result<u32, Mistake<'a>>
+    ensures { Spells (spelled_version word.now) result }
+{
+    match parse_u32(word.as_bytes()) {
+        Some(kvno) => Ok(kvno),
+        None => Err(Phrase::NO_VERSION.of(word)),
+    }
+}
+
 /// Parses the words of ktfind: a kvno, an enctype, and a principal with its realm.
 pub fn find_options<'a, M: Matches<'a>>(
     alloc: Global,
@@ -78,10 +88,7 @@ pub fn find_options<'a, M: Matches<'a>>(
 ) -> Result<FindOptions<Global>, WordFault<'a>>
     ensures { ReadsAs (entry_sought_of (M.matched matches.now)) result }
 {
-    let version = matches.operand("KVNO");
-    let Some(kvno) = parse_u32(version.as_bytes()) else {
-        return Err(WordFault::from(Phrase::NO_VERSION.of(version)));
-    };
+    let kvno = spelled_version(matches.operand("KVNO"))?;
     let enctype = spelled_etype(matches.operand("ETYPE"))?;
     let name = spelled_name(alloc, matches.operand("NAME"))?;
     Ok(FindOptions {
@@ -133,7 +140,8 @@ impl<'f, A: Allocator + Copy, B: Allocator> Command<A> for FindEntry<'f, B> {
     }
 
     fn make<F: Files>(&self, alloc: A, files: &mut F) -> MakeResult<'_, A, Self::Shown> {
-        let keytab = open_keytab(alloc, self.options.v1_order, files, self.file)?;
+        let options = self.options;
+        let keytab = open_keytab(alloc, options.v1_order, files, self.file)?;
         find(alloc, self, &keytab)
     }
 }

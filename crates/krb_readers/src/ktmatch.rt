@@ -7,6 +7,9 @@ mod verdict;
 pub(crate) mod words;
 
 ghost use Rattle.std.specs.Prelude.{◌≡◌, IfOk, OnErr};
+ghost use Rattle.krb_driver.specs.Commands.{GivesOf};
+ghost use Rattle.krb_driver.specs.Composing.{opened};
+ghost use Rattle.krb_driver.specs.Loading.{whole_in};
 ghost use Rattle.krb_readers.specs.Ktmatch.{EndsBy, EndsMatches, MatchesAll, LinesAreOfEach, MatchesCaches, MatchesEach, MatchesNext, NamesEntry, first_state, none_error, plan_of};
 
 use crate::ktmatch::command::MatchFiles;
@@ -173,6 +176,18 @@ fn match_all<A: Allocator + Copy, B: Allocator, F: Files, R: Read, W: Write, E: 
     Ok(match_with(alloc, options, keytab, &matcher, names, world))
 }
 
+// Loads the keytab, which is to have no damage.
+fn load<'a, A: Allocator, B: Allocator, F: Files>(
+    alloc: A,
+    options: &MatchOptions<B>,
+    files: &mut F,
+    keytab: FileName<'a>,
+) -> Result<Keytab<A>, FileError<'a>>
+    ensures { GivesOf F.Files files.old keytab.entry (whole_in options.now.v1_order) (opened (λ k. k.state) result) files.new }
+{
+    give_whole(alloc, options.v1_order, files, keytab)
+}
+
 /// Says of the tickets of caches, one cache after the other, whether a keytab opens them, and returns the greatest status.
 /// With several caches each line begins with the name of its file, without a newline; JSON is one object a line. Words
 /// explain each word once, at the first cache that has it. Ends before any cache if the keytab is missing, none or damaged,
@@ -186,7 +201,7 @@ pub fn run_ktmatch<A: Allocator + Copy, B: Allocator, F: Files, R: Read, W: Writ
 ) -> u8
     ensures { MatchesAll F.Files options.now keytab.entry world.old world.new result names.now }
 {
-    let opened = match give_whole(alloc, options.v1_order, &mut world.files, keytab) {
+    let opened = match load(alloc, options, &mut world.files, keytab) {
         Ok(opened) => opened,
         Err(met) => return end_by(alloc, met, world),
     };

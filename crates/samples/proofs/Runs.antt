@@ -128,6 +128,10 @@ over explains plan after said last state files (file ∷ names) =
     let next = after state (record { ending = ending_of effect; status = first.status }) in
     followed_by (record first { err = first.err ++ said next file.name.now }) (over explains plan after said last next first.files names)
 
+-- the same if nothing is said after a file and at the end
+abbrev over_all : {S : Type 0} → Bool → (S → FileName → CommandPlan) → (S → RunEnd → S) → S → FileMap → List FileName → Seen
+over_all explains plan after = over explains plan after (λ state file. []) (λ state. ends explains [] [] (Ok Well))
+
 -- a run with what the words of a line spell; or their mistake is reported, and nothing is done
 abbrev by_words : {X : Type 0} → Bool → List ℕ → FileMap → Result X MistakeParts → (X → Seen) → Seen
 by_words explains command files (Ok x) run = run x
@@ -137,10 +141,6 @@ by_words explains command files (Err mistake) run = record {
   status = 2;
   files = files;
 }
-
--- the same if nothing is said after a file and at the end
-abbrev over_all : {S : Type 0} → Bool → (S → FileName → CommandPlan) → (S → RunEnd → S) → S → FileMap → List FileName → Seen
-over_all explains plan after = over explains plan after (λ state file. []) (λ state. ends explains [] [] (Ok Well))
 
 -- ---- the commands, over files
 

@@ -3,6 +3,7 @@
 ghost use Rattle.std.specs.Prelude.{◌≡◌, IfOk};
 ghost use Rattle.krb_driver.specs.Commands.{Displays, IsMade};
 ghost use Rattle.krb_driver.specs.Composing.{made_effect};
+ghost use Rattle.krb_match.specs.Tickets.{matched_tickets, near_ticket};
 ghost use Rattle.krb_readers.specs.Ktcheck.{file_page};
 ghost use Rattle.krb_readers.specs.Ktmatch.{match_page, page_due, page_of, plan_of, state_after};
 
@@ -17,7 +18,7 @@ use krb_driver::{
     label_of, try_matched,
 };
 use krb_files::Files;
-use krb_match::{MatchedTicket, Matcher};
+use krb_match::{Matched, MatchedTicket, Matcher};
 use krb_wire::NoMemory;
 use std::alloc::Allocator;
 
@@ -64,6 +65,19 @@ fn page_of<'f, A: Allocator + Copy, B: Allocator>(
     }))
 }
 
+// Returns what the keytab says of the tickets of a cache.
+fn matched<A: Allocator + Copy, B: Allocator>(
+    alloc: A,
+    command: &MatchFiles<'_, '_, A, B>,
+    cache: &Ccache<A>,
+) -> Result<Matched<A>, NoMemory>
+    ensures tickets { IfOk result (λ m. m.tickets.items ≡ matched_tickets command.now.options.now.names command.now.matcher.now.0 cache.now.state) }
+    ensures near { IfOk result (λ m. m.near ≡ near_ticket command.now.matcher.now.1 command.now.options.now.names command.now.matcher.now.0 cache.now.state) }
+{
+    let options = command.options;
+    command.matcher.judge(alloc, &options.names, cache)
+}
+
 // Returns what is shown of a cache.
 fn shown<'a, 'f, A: Allocator + Copy, B: Allocator>(
     alloc: A,
@@ -76,8 +90,8 @@ fn shown<'a, 'f, A: Allocator + Copy, B: Allocator>(
         state file.entry.name.now cache.now.state))
         (made_effect (file_page match_page) file.entry.name.now result) }
 {
-    let (options, matcher, several) = (command.options, command.matcher, command.are_several);
-    let matched = matcher.judge(alloc, &options.names, cache)?;
+    let (options, several) = (command.options, command.are_several);
+    let matched = matched(alloc, command, cache)?;
     let judged = judged_of(options, several, state, &matched, cache.fault());
     let page = page_of(alloc, command, file, matched.tickets, judged)?;
     Ok(Made::Shows(page))
@@ -99,9 +113,10 @@ impl<'c, A: Allocator + Copy, B: Allocator> OverFiles<A> for MatchFiles<'c, '_, 
         file: FileName<'f>,
         files: &mut F,
     ) -> MakeResult<'f, A, FilePage<A, MatchObject<'c, A>>> {
+        let options = self.options;
         let cache = match try_matched(alloc, files, file) {
             Ok(cache) => cache,
-            Err(why) => return refused(self.options.json, file, why),
+            Err(why) => return refused(options.json, file, why),
         };
         shown(alloc, self, state, file, &cache)
     }

@@ -22,4 +22,4 @@ returns g c =
     let o = all.options.now in
     let selected = c.in_ok-selected.ensures in
     inr (removed o all.are_several c.args.file.name.now c.args.cache.state (selected_tickets o.servers o.all_services all.ended_by c.args.cache.state) c.in_ok-selected.selected.places.items c.in_ok-image.image.items c.in_ok-selected.selected.text.items _
-    selected.places selected.text (c.in_ok-image.ensures ∙ ap (λ (p : List ℕ). image_of (cache_after c.args.cache.state p)) c.deref.ensures.value) (search rules) (sym (ap (λ (b : Bool). saves_unless b c.args.file.name.now c.in_ok-image.image.items c.in_ok-selected.selected.text.items Well) c.if-options.false)))
+    selected.places selected.text (c.in_ok-image.ensures ∙ ap (λ (p : List ℕ). image_of (cache_after c.args.cache.state p)) c.deref.ensures.value) (search rules) (search rules))

@@ -1,4 +1,4 @@
-use Rattle.krb_driver.proofs.Cited.{◌≡◌, ℕ, List, Some, ap, sym, subst, ◌∙◌, map}
+use Rattle.krb_driver.proofs.Cited.{◌≡◌, ℕ, List, Some, ap, subst, ◌∙◌, map}
 use Rattle.std.specs.Result.{result_err}
 use Rattle.std.proofs.lemmas.List.{map_push}
 use Rattle.std.specs.Vec.{vec_items}

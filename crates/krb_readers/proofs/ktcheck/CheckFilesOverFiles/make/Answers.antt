@@ -1,4 +1,4 @@
-use Rattle.krb_readers.proofs.Cited.{inr, Ok, Err, found, page_of}
+use Rattle.krb_readers.proofs.Cited.{inr, ap, KeytabCheck, Ok, Err, found, page_of}
 use Rattle.krb_driver.specs.Loading.{keytab_in}
 use Rattle.krb_readers.proofs.Checked.{tried}
 use Rattle.krb_readers.proofs.ktcheck.CheckFilesOverFiles.make.Goals as goal
@@ -10,7 +10,7 @@ returns-in-Err g c =
     let o = s.options.now in
     tried g.F.Files a.files.now a.file (keytab_in o.v1_order) (Err c.in-Err.why) o.json
     (λ k. page_of o s.are_several a.explained a.file.name.now (found o s.aged_by (g.F.Files.mode c.try_keytab.new.files) k)) _
-    c.try_keytab.new.files (rw c.in-Err.is at c.try_keytab.ensures) (inr c.refused.ensures)
+    c.try_keytab.new.files (rw (c.in-Err.is, ap (λ (x : KeytabCheck). x.v1_order) c.options.view_is) at c.try_keytab.ensures) (inr (rw (ap (λ (x : KeytabCheck). x.json) c.options.view_is) at c.refused.ensures))
 
 pub returns : goal.returns
 returns g c =
@@ -19,4 +19,4 @@ returns g c =
     let o = s.options.now in
     tried g.F.Files a.files.now a.file (keytab_in o.v1_order) (Ok c.in-Ok.keytab.state) o.json
     (λ k. page_of o s.are_several a.explained a.file.name.now (found o s.aged_by (g.F.Files.mode c.try_keytab.new.files) k)) _
-    c.try_keytab.new.files (rw c.in-Ok.is at c.try_keytab.ensures) (rw c.mode.ensures at c.shown.ensures)
+    c.try_keytab.new.files (rw (c.in-Ok.is, ap (λ (x : KeytabCheck). x.v1_order) c.options.view_is) at c.try_keytab.ensures) (rw c.mode.ensures at c.shown.ensures)

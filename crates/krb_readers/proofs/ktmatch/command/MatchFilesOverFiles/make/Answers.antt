@@ -1,6 +1,7 @@
-use Rattle.krb_readers.proofs.Cited.{inr, Ok, Err}
+use Rattle.krb_readers.proofs.Cited.{inr, ap, Ok, Err}
 use Rattle.krb_driver.specs.Loading.{matched_in}
 use Rattle.krb_readers.specs.Ktmatch.{page_due}
+use Rattle.krb_readers.specs.KtmatchWords.{TicketMatch}
 use Rattle.krb_readers.proofs.Checked.{tried}
 use Rattle.krb_readers.proofs.ktmatch.command.MatchFilesOverFiles.make.Goals as goal
 
@@ -14,4 +15,4 @@ pub returns-in-Err : goal.returns-in-Err
 returns-in-Err g c =
     let s = c.args.self.now in
     tried g.F.Files c.args.files.now c.args.file matched_in (Err c.in-Err.why) s.options.now.json (page_due s.options.now s.keytab.now s.are_several s.matcher.now c.args.state c.args.file.name.now) _
-    c.try_matched.new.files (rw c.in-Err.is at c.try_matched.ensures) (inr c.refused.ensures)
+    c.try_matched.new.files (rw c.in-Err.is at c.try_matched.ensures) (inr (rw (ap (λ (x : TicketMatch). x.json) c.options.view_is) at c.refused.ensures))
