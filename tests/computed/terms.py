@@ -65,6 +65,11 @@ def pairs(items: list[tuple[str, str]]) -> str:
     return listed([f"({text(name.encode())}, {value})" for name, value in items])
 
 
+def is_text(word: bytes) -> bool:
+    """Returns whether a word is UTF-8."""
+    return word.decode(errors="ignore").encode() == word
+
+
 class Words:
     """The words of a command line: its flags, the values of its options and operands, by name, and its long names."""
 
@@ -72,7 +77,9 @@ class Words:
         words = [word.decode("latin-1") if isinstance(word, bytes) else word for word in case.words]
         end = words.index("--") if "--" in words else len(words)
         self.explains = EXPLAIN in words[:end]
-        self.command, *rest = [word for at, word in enumerate(words) if word != EXPLAIN or at > end]
+        if words[:end].count(EXPLAIN) > 1 or any(isinstance(word, bytes) and not is_text(word) for word in case.words):
+            raise NotComputed("a word that is no text, or --explain twice")
+        self.command, *rest = [word for at, word in enumerate(words) if word != EXPLAIN or at > end] or [""]
         if self.command not in spellings():
             raise NotComputed("help or the version, or no command")
         self.spelling = spellings()[self.command]
@@ -102,6 +109,8 @@ class Words:
         long = {word.partition("=")[0] for word in words if word.startswith("--")} - {"--"}
         if any(word.startswith("--") and word not in long for word, _ in found):
             raise NotComputed("a short form of an option")
+        if any(value.startswith("-") for _, value in found):
+            raise NotComputed("an option in place of a value")
         if len(operands) < len(names) or len(operands) > len(names) and not self.spelling.is_repeated:
             raise NotComputed("a default name, or a mistake in the number of operands")
         return [(letters.get(word, word[2:]), value) for word, value in found], operands

@@ -25,8 +25,8 @@ x`, and else all is `None`. `.old`, `.new`: a variable before and after; `.now`,
 holds. A plan `holds` a file, `opens` it and goes on with what that gave, then `Ends` with what it
 prints (`Displays`), saves and prints (`Saves`) or reports (`Fails`). A definition is before those
 that it names; a name after `cells.` is krb_cells' own. In brackets: where it is from. `e.g.`: a
-value, or a run of the tests and a line that it prints by the definition. `ending_words` and
-`mistake_words` are what --explain says, as krbfile(1) describes.
+value, or a run of the tests and a line that it prints by the definition. What is not opened, as
+`ending_words`, is for --explain alone, whose words krbfile(1) describes.
 """
 
 

@@ -7,7 +7,9 @@ from functools import cache
 from reading.sources import CRATES, Place, Sources
 
 # What is not opened: the words of a terminal.
-CLOSED = {("krb_driver/specs/EndingWords", "ending_words"), ("krb_driver/specs/Mistakes", "mistake_words")}
+CLOSED = {(f"krb_driver/specs/{file}", name) for file, name in (
+    ("EndingWords", "ending_words"), ("EndingWords", "found_fault_words"), ("Mistakes", "mistake_words"),
+    ("Runs", "near_words"), ("Beginnings", "begins_as"), ("FirstWords", "safe_word"))}
 # The crates and files of streams, the order of messages, statuses and saves.
 FRAME = ("krb_driver/", "krb_files/", "krb_editors/specs/Removing", "krb_editors/specs/MissingFiles")
 LISTS_KEYTAB, LISTS_CACHE = {"ListKind": "Keytab"}, {"ListKind": "Cache"}
