@@ -1,5 +1,4 @@
 -- The names that the proofs cite most, passed on from one place. Declares nothing.
-unfoldable pub use Rattle.krb_driver.specs.Loading.{whole_or_empty, whole_in}
 pub use Rattle.std.proofs.Common.{◌∙◌, ◌≡◌, sym, List, ap, ℕ, take, arith, ◌++◌, refl, length, Bool, [], subst, ◌∷◌, ◌≤◌, ◌<◌, true, drop, false, inl, map, ◌+◌, Option, None, inr, ◌⊎◌, get_or, append-nil, Some, Ok, ◌-◌, Result, Bor, Err, append_assoc, eqb, length-drop, length-append, ◌≢◌, cond, add-one}
 pub use Rattle.std.proofs.lemmas.Bool.{true≢false, false≢true, le-leb, eqb-true, eq-eqb, or_left, or_right}
 pub use Rattle.std.proofs.lemmas.List.{take_all, length-map, drop_more, map-id, drop_all}
@@ -9,14 +8,10 @@ pub use Rattle.krb_driver.specs.Commands.{ShowsEnd, MakesFairly, Takes, FairOver
 pub use Rattle.krb_driver.specs.Composing.{ready_end, made_effect, Opens, HoldsIf, faults, EndsAfter, Tries}
 pub use Rattle.krb_driver.specs.Runs.{ErrorWatch, Writes, Run, ends_by, Shows, ReportsEnd, Adds, Underway, Sends, words_if, aftermath_text}
 pub use Rattle.krb_driver.specs.Hints.{quoted_byte, etype_option, operand_text, is_alike}
-pub use Rattle.krb_driver.specs.Loading.{keytab_in, keytab_refusal, or_refused, unless_refused, fresh_in}
 pub use Rattle.krb_driver.specs.Messages.{piece_text, key_from, key_start, byte_text, hidden_word, may_be_key, quoted_word, shown_byte, has_key, message}
-pub use Rattle.krb_driver.specs.declared.verdict.FileKind.TheVariants.{Keytab}
 pub use Rattle.krb_files.specs.Bytes.{Watch, AppendsPrefix}
 pub use Rattle.krb_files.specs.declared.files.Files.{Ghosts}
-pub use Rattle.krb_driver.specs.declared.verdict.FileKind.{FileKind}
 pub use Rattle.krb_driver.specs.declared.file_name.FileName.{FileName}
-pub use Rattle.krb_walk.specs.declared.refusal.Code.{Code}
 pub use Rattle.krb_files.specs.Loading.{Answer, SavesFile, TurnsHold}
 pub use Rattle.krb_files.specs.Plan.{Ends, HeldIf, Holds, Loaded, Loads, Faults, by, follow}
 pub use Rattle.krb_files.proofs.PlanLaws.{loaded-none, Lasts, comes, count-more, count-trans, loaded-lasts, same-trans, with_bytes-set}
@@ -29,3 +24,4 @@ pub use Rattle.krb_walk.specs.ReplyContent.{content_of}
 pub use Rattle.krb_driver.specs.Several.{first_round, Round, RunsFile, RunsOver, is_last}
 pub use Rattle.krb_driver.specs.Mistakes.{word_text}
 pub use Rattle.krb_driver.specs.declared.command.RunEnd.{RunEnd}
+pub use Rattle.krb_driver.specs.declared.verdict.FileKind.TheVariants.{Keytab}

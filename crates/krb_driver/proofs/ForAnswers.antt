@@ -3,4 +3,3 @@ pub use Rattle.krb_driver.proofs.Cited.{Adds, FileName, Keytab, [], arith, byte_
 pub use Rattle.krb_driver.proofs.Making.{tries_by}
 pub use Rattle.krb_driver.proofs.Rounds.{Leads, last_one, one_more}
 pub use Rattle.krb_driver.proofs.Shown.{Adds-none, Adds-number, Adds-piece, Adds-then, Writes-two}
-pub use Rattle.krb_driver.specs.Loading.{keytab_in}

@@ -1,6 +1,6 @@
 -- What was made of the files follows the plan.
-use Rattle.krb_driver.proofs.Cited.{◌≡◌, ◌⊎◌, inl, inr, ◌∙◌, ℕ, Bool, List, [], ◌∷◌, refl, sym, ap, subst, false≢true, true≢false, FairOver, GivesLoaded, GivesOf, HoldsIf, Makes, MakesFairly, Opens, fair_first, of_file, CommandPlan, Effect, Fails, IsMade, IsSpent, faults, goes_on, tries, opens, EndsAfter, Tries, effect_by, if_unread, or_refused, unless_refused, Ghosts, FileKind, FileName, Code, Answer, Ends, HeldIf, Holds, Loaded, Loads, loaded-none}
-use Rattle.std.specs.Prelude.{Option, None, Some, Result, Ok, Err, is_ok}
+use Rattle.krb_driver.proofs.Cited.{◌≡◌, ◌⊎◌, inl, inr, ◌∙◌, ℕ, Bool, List, [], ◌∷◌, refl, sym, ap, subst, false≢true, true≢false, FairOver, GivesLoaded, GivesOf, HoldsIf, Makes, MakesFairly, Opens, fair_first, of_file, CommandPlan, Effect, Fails, IsMade, IsSpent, faults, goes_on, tries, opens, EndsAfter, Tries, effect_by, if_unread, Ghosts, FileName, Answer, Ends, HeldIf, Holds, Loaded, Loads, loaded-none}
+use Rattle.std.specs.Prelude.{Result, Ok, Err, is_ok}
 use Rattle.krb_files.specs.declared.files.LoadFault.TheVariants as load
 use Rattle.krb_driver.specs.declared.error.RunError.{RunError}
 use Rattle.krb_driver.specs.declared.error.RunError.TheVariants as error
@@ -119,30 +119,6 @@ makes-failed trait old file gives met new o = makes-end trait new (Fails file.na
 pub opens_by : {F X : Type 0} (trait : Ghosts F) (old : F) (file : FileName) (gives : Answer → Result X RunError) (given : Result X (List ℕ × RunError)) (new : F) → GivesOf trait old file gives given new → Opens trait old file gives given new
 opens_by trait old file gives (Ok x) new o = λ then_ effect end made. makes-tried file then_ (fails_by file) (ends_by file) gives trait old (Ok x) effect new end o made
 opens_by trait old file gives (Err met) new o = λ then_. makes-tried file then_ (fails_by file) (ends_by file) gives trait old (Err met) (Fails met.0 met.1) new new o (makes-failed trait old file gives met new o)
-
-or-refused : {X : Type 0} (kind : FileKind) (file : FileName) (k : X) (o : Option Code) → or_refused (λ code. (file.name.now, error.Refused kind code)) k o ≡ of_file file (or_refused (error.Refused kind) k o)
-or-refused kind file k None = refl
-or-refused kind file k (Some code) = refl
-
-of-refused : {X : Type 0} (kind : FileKind) (refusal : X → Option Code) (file : FileName) (given : Result X RunError) → unless_refused (λ code. (file.name.now, error.Refused kind code)) refusal (of_file file given) ≡ of_file file (unless_refused (error.Refused kind) refusal given)
-of-refused kind refusal file (Ok k) = or-refused kind file k (refusal k)
-of-refused kind refusal file (Err error) = refl
-
--- something was given, unless it has a refusal
-pub gives_unless : {F X : Type 0} (trait : Ghosts F) (old : F) (file : FileName) (gives : Answer → Result X RunError) (kind : FileKind) (refusal : X → Option Code) (given : Result X (List ℕ × RunError)) (new : F) → GivesOf trait old file gives given new
-    → GivesOf trait old file (λ answer. unless_refused (error.Refused kind) refusal (gives answer)) (unless_refused (λ code. (file.name.now, error.Refused kind code)) refusal given) new
-gives_unless trait old file gives kind refusal given new (inl o) = inl (record {
-  answer = o.answer;
-  loads = o.loads;
-  given_is = elim o.given_is [
-    | inl spent ↦ inl (ap (unless_refused (λ code. (file.name.now, error.Refused kind code)) refusal) spent)
-    | inr is ↦ inr (ap (unless_refused (λ code. (file.name.now, error.Refused kind code)) refusal) is ∙ of-refused kind refusal file (gives o.answer))
-  ];
-  failed = ap (unless_refused (error.Refused kind) refusal) o.failed;
-  spent = ap (unless_refused (error.Refused kind) refusal) o.spent;
-  read = o.read;
-})
-gives_unless trait old file gives kind refusal given new (inr o) = inr (o.0, o.1, ap (unless_refused (λ code. (file.name.now, error.Refused kind code)) refusal) o.2)
 
 -- a file was held, or not
 pub makes_holds : {F : Type 0} (trait : Ghosts F) (old new : F) (held : Bool) (file : List ℕ) → HeldIf trait held file old new → HoldsIf trait old held file new

@@ -1,16 +1,16 @@
 -- What a file is that may be a keytab or a cache.
-use Rattle.std.specs.Prelude.{ℕ, List, if◌then◌else◌, Option, Result, Ok, Err}
+use Rattle.std.specs.Prelude.{ℕ, List, if◌then◌else◌, Option, Result}
 use Rattle.krb_wire.specs.declared.format.Order.{Order}
 use Rattle.krb_walk.specs.Store.{fault_of}
 use Rattle.krb_keytab.specs.Store.{KeytabState, store_of}
-use Rattle.krb_ccache.specs.Store.{CacheState, open_result as cache_result, store_of as cache_store}
-use Rattle.krb_files.specs.Loading.{Answer, most_bytes}
+use Rattle.krb_ccache.specs.Store.{CacheState, store_of as cache_store}
+use Rattle.krb_files.specs.Loading.{Answer}
 use Rattle.krb_driver.specs.declared.either.Contents.{Contents}
 use Rattle.krb_driver.specs.declared.either.Contents.TheVariants as contents
-use Rattle.krb_driver.specs.declared.error.RunError.TheVariants.{NeitherToShow}
+use Rattle.krb_driver.specs.declared.not_opened.Expected.TheVariants as expected
 use Rattle.krb_driver.specs.Beginnings.{begins_as, is_keytab}
-use Rattle.krb_driver.specs.Loading.{keytab_in, not_cache, result_map, result_map_err}
-use Rattle.krb_driver.specs.RunErrors.{Fault, RunError, load_error}
+use Rattle.krb_driver.specs.Loading.{by_load, opened_cache, opened_keytab, result_map}
+use Rattle.krb_driver.specs.RunErrors.{Fault, RunError}
 
 -- a keytab or a cache
 pub data EitherState : Type 0 where
@@ -29,10 +29,9 @@ damage_of (OfCache k) = fault_of (cache_store k)
 -- the keytab or the cache in an image: one that begins as a keytab is opened as a keytab, and any other as a cache
 abbrev pub contents_of : Order → List ℕ → Result EitherState RunError
 contents_of order image =
-    if is_keytab (begins_as image) then result_map OfKeytab (keytab_in order (Ok image))
-    else result_map OfCache (result_map_err NeitherToShow (result_map_err (not_cache image) (cache_result most_bytes image)))
+    if is_keytab (begins_as image) then result_map OfKeytab (opened_keytab expected.Keytab order image)
+    else result_map OfCache (opened_cache expected.Either image)
 
 -- the keytab or the cache that a load gives, or the error
 abbrev pub contents_in : Order → Answer → Result EitherState RunError
-contents_in order (Ok image) = contents_of order image
-contents_in order (Err fault) = Err (load_error fault)
+contents_in order = by_load (contents_of order)

@@ -3,12 +3,6 @@ use Rattle.std.specs.Prelude.{ℕ, List, [], ◌++◌, Bool, true, false, nat_eq
 use Rattle.krb_walk.specs.declared.refusal.Code.TheVariants.{Damaged, Full, NotAPlace, NotLive, ReadOnly}
 use Rattle.std.specs.List.{flat_map, starts_with}
 use Rattle.krb_walk.specs.Phrases.{code_number, fault_number, code_phrase, fault_phrase}
-use Rattle.krb_keytab.specs.declared.open.KtOpenFault.{KtOpenFault}
-use Rattle.krb_keytab.specs.declared.open.KtOpenFault.TheVariants as kt
-use Rattle.krb_keytab.specs.Open.{open_fault_phrase as kt_phrase}
-use Rattle.krb_ccache.specs.declared.open.CcOpenFault.{CcOpenFault}
-use Rattle.krb_ccache.specs.declared.open.CcOpenFault.TheVariants as cc
-use Rattle.krb_ccache.specs.Open.{open_fault_phrase as cc_phrase}
 use Rattle.krb_files.specs.declared.cause.Cause.{Cause}
 use Rattle.krb_files.specs.declared.cause.Cause.TheVariants.{InTheWay, System}
 use Rattle.krb_files.specs.Phrases.{cause_phrase}
@@ -30,9 +24,7 @@ use Rattle.krb_driver.specs.declared.verdict.Findings.{Findings}
 use Rattle.krb_driver.specs.declared.verdict.TicketsSought.{TicketsSought}
 use Rattle.krb_driver.specs.declared.verdict.TicketsSought.TheVariants.{Asked, OfServices}
 use Rattle.krb_driver.specs.declared.verdict.Verdict.TheVariants.{HiddenFrom, NoEntry, Listed, Replied, Found, Judged, NothingToRemove, Clashed}
-use Rattle.krb_driver.specs.declared.beginning.Beginning.{Beginning}
-use Rattle.krb_driver.specs.declared.beginning.Beginning.TheVariants as begins
-use Rattle.krb_driver.specs.Beginnings.{beginning_phrase}
+use Rattle.krb_driver.specs.NotOpened.{not_opened_phrase}
 use Rattle.krb_driver.specs.FileNames.{shown_name, type_of, untyped}
 use Rattle.krb_driver.specs.FirstWords.{word_text}
 use Rattle.krb_driver.specs.Hints.{hint_words}
@@ -70,42 +62,6 @@ refusal_phrase kind code = cache_phrase code
 abbrev pub nothing_phrase : FileKind → List ℕ
 nothing_phrase Keytab = codes "no entry has what was asked for"
 nothing_phrase kind = codes "no ticket has what was asked for"
-
--- why an image is not a keytab, by what it begins as
-abbrev pub no_keytab_phrase : KtOpenFault → Beginning → List ℕ
-no_keytab_phrase kt.BadVersion begins.Cache = codes "it begins as a credential cache"
-no_keytab_phrase kt.BadVersion other = beginning_phrase other (kt_phrase kt.BadVersion)
-no_keytab_phrase fault other = kt_phrase fault
-
--- why a file that is listed as a keytab is none, by what it begins as
-abbrev pub list_phrase : KtOpenFault → Beginning → List ℕ
-list_phrase kt.BadVersion begins.Cache = codes "it begins as a credential cache; list it without -k"
-list_phrase fault other = no_keytab_phrase fault other
-
--- why an image is not a cache, by what it begins as
-abbrev pub no_cache_phrase : CcOpenFault → Beginning → List ℕ
-no_cache_phrase cc.BadVersion begins.Keytab = codes "a keytab (list it with -k), or a cache of version 1 or 2 (not read)"
-no_cache_phrase cc.BadVersion other = beginning_phrase other (cc_phrase cc.BadVersion)
-no_cache_phrase fault other = cc_phrase fault
-
--- why a file to show is neither a keytab nor a cache
-abbrev pub neither_phrase : List ℕ
-neither_phrase = codes "it does not begin as a keytab or a cache"
-
--- why a file that does not begin as a keytab is no cache, by what it begins as
-abbrev pub show_phrase : CcOpenFault → Beginning → List ℕ
-show_phrase cc.BadVersion other = beginning_phrase other neither_phrase
-show_phrase fault other = cc_phrase fault
-
--- why a file that is held as a cache is none, by what it begins as
-abbrev pub hold_phrase : CcOpenFault → Beginning → List ℕ
-hold_phrase cc.BadVersion begins.Keytab = codes "a keytab (hold it with -k), or a cache of version 1 or 2 (not read)"
-hold_phrase fault other = no_cache_phrase fault other
-
--- why a file whose tickets are matched is no cache, by what it begins as
-abbrev pub match_phrase : CcOpenFault → Beginning → List ℕ
-match_phrase cc.BadVersion begins.Keytab = codes "a keytab (KEYTAB comes first), or a cache of version 1 or 2 (not read)"
-match_phrase fault other = no_cache_phrase fault other
 
 -- why no ticket was looked at
 abbrev pub no_ticket_phrase : TicketsSought → List ℕ
@@ -232,12 +188,7 @@ error_words file line details error.TypedName = typed_words line file
 error_words file line details error.FileTooLarge = phrase_line line too_large
 error_words file line details error.FileNotRead = cause_words file line details
 error_words file line details error.FileNotWritten = cause_words file line details
-error_words file line details (error.NotAKeytab why) = phrase_line line (no_keytab_phrase why.fault why.begins)
-error_words file line details (error.NotAKeytabToList why) = phrase_line line (list_phrase why.fault why.begins)
-error_words file line details (error.NotACache why) = phrase_line line (no_cache_phrase why.fault why.begins)
-error_words file line details (error.NotACacheToHold why) = phrase_line line (hold_phrase why.fault why.begins)
-error_words file line details (error.NotACacheToMatch why) = phrase_line line (match_phrase why.fault why.begins)
-error_words file line details (error.NeitherToShow why) = phrase_line line (show_phrase why.fault why.begins)
+error_words file line details (error.NotOpened why) = phrase_line line (not_opened_phrase why)
 error_words file line details (error.Refused kind code) = phrase_line line (refusal_phrase kind code)
 error_words file line details error.NothingToCopy = phrase_line line (nothing_phrase Keytab)
 error_words file line details (error.NothingSelected kind) = phrase_line line (nothing_phrase kind)

@@ -2,8 +2,9 @@
 pub mod FileNames
 pub mod Messages
 pub mod FirstWords
-pub mod RunErrors
 pub mod Beginnings
+pub mod NotOpened
+pub mod RunErrors
 pub mod Reported
 pub mod Hints
 pub mod EndingWords

@@ -2,18 +2,22 @@
 use Rattle.std.specs.Prelude.{◌≡◌, ◌⊎◌, ℕ, Bool, true, false, ◌||◌, List, [], Result, Ok, Err, is_some, if◌then◌else◌, Option, None, Some, ◌≢◌, ◌+◌, ◌<◌, ◌≤◌, length, IfOk, IfErr, IfSome, IsErrOf}
 use Rattle.krb_wire.specs.declared.format.KtFormat.TheVariants.{V2}
 use Rattle.krb_wire.specs.declared.format.Order.{Order}
-use Rattle.krb_keytab.specs.declared.open.KtOpenFault.{KtOpenFault}
 use Rattle.krb_keytab.specs.Store.{KeytabState, empty, open_result, store_of}
-use Rattle.krb_ccache.specs.declared.open.CcOpenFault.{CcOpenFault}
 use Rattle.krb_ccache.specs.Store.{CacheState, open_result as cache_result, store_of as cache_store}
 use Rattle.krb_files.specs.declared.files.Files.{Ghosts}
 use Rattle.krb_files.specs.declared.files.LoadFault.TheVariants as load
 use Rattle.krb_files.specs.Loading.{LoadsFile, most_bytes, Answer}
-use Rattle.krb_driver.specs.declared.loading.NotCache.{NotCache}
-use Rattle.krb_driver.specs.declared.loading.NoKeytab.TheVariants.{Load, Open}
-use Rattle.krb_driver.specs.declared.error.RunError.TheVariants.{NotACache, NotACacheToMatch, Refused}
+use Rattle.krb_driver.specs.declared.error.RunError.TheVariants as error
+use Rattle.krb_driver.specs.declared.opener.CacheUse.{CacheUse}
+use Rattle.krb_driver.specs.declared.opener.CacheUse.TheVariants as cache_use
+use Rattle.krb_driver.specs.declared.opener.KeytabUse.{KeytabUse}
+use Rattle.krb_driver.specs.declared.opener.KeytabUse.TheVariants as keytab_use
+use Rattle.krb_driver.specs.declared.not_opened.Expected.{Expected}
+use Rattle.krb_driver.specs.declared.not_opened.Expected.TheVariants as expected
+use Rattle.krb_driver.specs.declared.not_opened.OpenFault.{OpenFault}
+use Rattle.krb_driver.specs.declared.not_opened.OpenFault.TheVariants as fault
 use Rattle.krb_driver.specs.Beginnings.{begins_as}
-use Rattle.krb_driver.specs.RunErrors.{LoadFault, NoKeytab, RunError, Code, load_error, list_error, no_keytab_error}
+use Rattle.krb_driver.specs.RunErrors.{LoadFault, RunError, Code, load_error}
 use Rattle.krb_walk.specs.Store.{fault_of}
 use Rattle.krb_walk.specs.declared.refusal.Code.TheVariants.{Damaged, ReadOnly}
 use Rattle.krb_ccache.specs.Changes.{is_read_only}
@@ -33,91 +37,76 @@ abbrev pub result_map_err : {X E D : Type 0} → (E → D) → Result X E → Re
 result_map_err why (Ok x) = Ok x
 result_map_err why (Err e) = Err (why e)
 
--- why an image is not a keytab, with what it begins as
-abbrev pub not_keytab : List ℕ → KtOpenFault → NoKeytab
-not_keytab image fault = Open (record { fault = fault; begins = begins_as image })
+-- the error for an image that begins so and does not open
+abbrev pub not_opened : Expected → List ℕ → OpenFault → RunError
+not_opened expected image fault = error.NotOpened (record { fault = fault; begins = begins_as image; expected = expected })
 
--- why an image is not a cache, with what it begins as
-abbrev pub not_cache : List ℕ → CcOpenFault → NotCache
-not_cache image fault = record { fault = fault; begins = begins_as image }
+-- the keytab in an image, or the error
+abbrev pub opened_keytab : Expected → Order → List ℕ → Result KeytabState RunError
+opened_keytab expected order image = result_map_err (λ why. not_opened expected image (fault.Keytab why)) (open_result order most_bytes image)
 
--- the keytab that a load gives, or why there is none: the load's fault, or that the image is no keytab
-abbrev pub keytab_of : Order → Result (List ℕ) LoadFault → Result KeytabState NoKeytab
-keytab_of order (Ok image) = result_map_err (not_keytab image) (open_result order most_bytes image)
-keytab_of order (Err fault) = Err (Load fault)
-
--- the keytab for a missing file that is to be written: an empty one of version 2, unless the file is to be saved in place
-abbrev pub new_unless : Bool → Result KeytabState NoKeytab
-new_unless true = Err (Load load.Missing)
-new_unless false = Ok (empty V2 most_bytes)
-
--- the keytab that a load gives, or an empty one for a missing file that is not to be saved in place
-abbrev pub keytab_or_new : Order → Bool → Result (List ℕ) LoadFault → Result KeytabState NoKeytab
-keytab_or_new order in_place (Err load.Missing) = new_unless in_place
-keytab_or_new order in_place answer = keytab_of order answer
-
--- the keytab that a load gives, or an empty one for a file of no bytes, or a missing one that is not to be saved in place
-abbrev pub keytab_or_fresh : Order → Bool → Result (List ℕ) LoadFault → Result KeytabState NoKeytab
-keytab_or_fresh order in_place (Ok []) = Ok (empty V2 most_bytes)
-keytab_or_fresh order in_place answer = keytab_or_new order in_place answer
-
--- the cache that a load gives, to match its tickets or not, or the error
-abbrev pub cache_in : Bool → Result (List ℕ) LoadFault → Result CacheState RunError
-cache_in matched (Ok image) = result_map_err (λ fault. if matched then NotACacheToMatch (not_cache image fault) else NotACache (not_cache image fault)) (cache_result most_bytes image)
-cache_in matched (Err fault) = Err (load_error fault)
-
--- the cache that a load gives, or the error
-abbrev pub cache_of : Result (List ℕ) LoadFault → Result CacheState RunError
-cache_of = cache_in false
-
--- the cache whose tickets are matched that a load gives, or the error
-abbrev pub matched_in : Result (List ℕ) LoadFault → Result CacheState RunError
-matched_in = cache_in true
+-- the cache in an image, or the error
+abbrev pub opened_cache : Expected → List ℕ → Result CacheState RunError
+opened_cache expected image = result_map_err (λ why. not_opened expected image (fault.Cache why)) (cache_result most_bytes image)
 
 -- ---- what files answer
 
-module _ {F : Type 0} (trait : Ghosts F) (old : F) (name : List ℕ) where
-  -- the file of a name was loaded from the files `old`, which left `new`, and `given` is what is due for the result of the load
-  pub record Gives {X E : Type 0} (due : Result (List ℕ) LoadFault → Result X E) (given : Result X E) (new : F) : Type 0 where
-    pub answer : Result (List ℕ) LoadFault
-    pub loads : LoadsFile trait old name answer new
-    pub gives : due answer ≡ given
+-- the file of a name was loaded from the files `old`, which left `new`, and `given` is what is due for the result of the load, or memory ran out
+pub record GivesOrIsSpent {F : Type 0} (trait : Ghosts F) (old : F) (name : List ℕ) {X : Type 0} (due : Answer → Result X RunError) (given : Result X RunError) (new : F) : Type 0 where
+  pub answer : Answer
+  pub loads : LoadsFile trait old name answer new
+  pub gives : (given ≡ Err error.NoMemory) ⊎ (given ≡ due answer)
 
-  -- a file was loaded, and `given` is what is due, or memory ran out for the keytab in place of a missing file
-  pub record GivesOrRunsOut {X : Type 0} (due : Result (List ℕ) LoadFault → Result X NoKeytab) (given : Result X NoKeytab) (new : F) : Type 0 where
-    pub answer : Result (List ℕ) LoadFault
-    pub loads : LoadsFile trait old name answer new
-    pub gives : (due answer ≡ given) ⊎ (given ≡ Err (Load load.NoMemory))
+-- what a file gives if the load fails is that error, and if memory runs out too
+pub record EndsLoads {X : Type 0} (gives : Answer → Result X RunError) : Type 0 where
+  pub failed : gives (Err load.Failed) ≡ Err error.FileNotRead
+  pub spent : gives (Err load.NoMemory) ≡ Err error.NoMemory
 
 -- ---- what opened files give
 
--- the keytab that a load gives, to list it or not, or the error
-abbrev pub keytab_for : Bool → Order → Answer → Result KeytabState RunError
-keytab_for listed order answer = result_map_err (list_error listed) (keytab_of order answer)
+-- what a load gives, once it is opened, or the load's error
+abbrev pub by_load : {X : Type 0} → (List ℕ → Result X RunError) → Answer → Result X RunError
+by_load opens (Ok image) = opens image
+by_load opens (Err fault) = Err (load_error fault)
 
 -- the keytab that a load gives, or the error
 abbrev pub keytab_in : Order → Answer → Result KeytabState RunError
-keytab_in = keytab_for false
+keytab_in order = by_load (opened_keytab expected.Keytab order)
 
 -- the keytab that a load gives, to list it, or the error
 abbrev pub listed_in : Order → Answer → Result KeytabState RunError
-listed_in = keytab_for true
+listed_in order = by_load (opened_keytab expected.KeytabToList order)
+
+-- the keytab in place of a missing file that is to be written: an empty one of version 2, unless the file is to be saved in place
+abbrev pub new_unless : Bool → Result KeytabState RunError
+new_unless true = Err (load_error load.Missing)
+new_unless false = Ok (empty V2 most_bytes)
 
 -- the keytab that a load gives, or an empty one for a missing file that is not to be saved in place, or the error
 abbrev pub keytab_or_empty : Order → Bool → Answer → Result KeytabState RunError
-keytab_or_empty order in_place answer = result_map_err no_keytab_error (keytab_or_new order in_place answer)
+keytab_or_empty order in_place (Err load.Missing) = new_unless in_place
+keytab_or_empty order in_place answer = keytab_in order answer
 
 -- the keytab that a load gives, or an empty one for a file of no bytes, or a missing one that is not to be saved in place, or the error
 abbrev pub fresh_in : Order → Bool → Answer → Result KeytabState RunError
-fresh_in order in_place answer = result_map_err no_keytab_error (keytab_or_fresh order in_place answer)
+fresh_in order in_place (Ok []) = Ok (empty V2 most_bytes)
+fresh_in order in_place answer = keytab_or_empty order in_place answer
+
+-- the cache that a load gives, or the error
+abbrev pub cache_of : Answer → Result CacheState RunError
+cache_of = by_load (opened_cache expected.Cache)
+
+-- the cache whose tickets are matched that a load gives, or the error
+abbrev pub matched_in : Answer → Result CacheState RunError
+matched_in = by_load (opened_cache expected.CacheToMatch)
 
 -- what was opened, or the error of the refusal, if there is one
-abbrev pub or_refused : {K E : Type 0} → (Code → E) → K → Option Code → Result K E
+abbrev pub or_refused : {K : Type 0} → (Code → RunError) → K → Option Code → Result K RunError
 or_refused why k None = Ok k
 or_refused why k (Some code) = Err (why code)
 
 -- what was opened, unless it refuses to be changed
-abbrev pub unless_refused : {K E : Type 0} → (Code → E) → (K → Option Code) → Result K E → Result K E
+abbrev pub unless_refused : {K : Type 0} → (Code → RunError) → (K → Option Code) → Result K RunError → Result K RunError
 unless_refused why refusal (Ok k) = or_refused why k (refusal k)
 unless_refused why refusal (Err e) = Err e
 
@@ -131,15 +120,29 @@ cache_refusal k = if is_read_only k.version then Some ReadOnly else (if is_some 
 
 -- the keytab that a load gives, to change it: it must not be damaged
 unfoldable pub whole_in : Order → Answer → Result KeytabState RunError
-whole_in order answer = unless_refused (Refused Keytab) keytab_refusal (keytab_in order answer)
+whole_in order answer = unless_refused (error.Refused Keytab) keytab_refusal (keytab_in order answer)
 
 -- the keytab that a load gives, to change it, where a file of no bytes, or a missing one that is not to be saved in place, gives an empty one; it must not be damaged
 unfoldable pub whole_or_empty : Order → Bool → Answer → Result KeytabState RunError
-whole_or_empty order in_place answer = unless_refused (Refused Keytab) keytab_refusal (fresh_in order in_place answer)
+whole_or_empty order in_place answer = unless_refused (error.Refused Keytab) keytab_refusal (fresh_in order in_place answer)
 
 -- the cache that a load gives, to change it: it must be of version 4, and not damaged
 unfoldable pub writable_in : Answer → Result CacheState RunError
-writable_in answer = unless_refused (Refused Cache) cache_refusal (cache_of answer)
+writable_in answer = unless_refused (error.Refused Cache) cache_refusal (cache_of answer)
+
+-- the keytab that a load gives for its use, by whether the file is to be saved in place
+abbrev pub keytab_for : KeytabUse → Bool → Answer → Result KeytabState RunError
+keytab_for (keytab_use.Read order) in_place = keytab_in order
+keytab_for (keytab_use.List order) in_place = listed_in order
+keytab_for (keytab_use.Edit order) in_place = keytab_or_empty order in_place
+keytab_for (keytab_use.Change order) in_place = whole_in order
+keytab_for (keytab_use.Fill order) in_place = whole_or_empty order in_place
+
+-- the cache that a load gives for its use
+abbrev pub cache_for : CacheUse → Answer → Result CacheState RunError
+cache_for cache_use.Read = cache_of
+cache_for cache_use.Match = matched_in
+cache_for cache_use.Change = writable_in
 
 -- ---- what the standard input gives
 

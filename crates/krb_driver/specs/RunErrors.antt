@@ -7,8 +7,9 @@ use Rattle.krb_walk.specs.Phrases.{code_number}
 pub use Rattle.krb_driver.specs.declared.verdict.Verdict.{Verdict}
 use Rattle.krb_driver.specs.declared.verdict.Verdict.TheVariants.{Well, HiddenFrom, NoEntry, Without, Listed, Replied, Found, Judged, NothingToRemove}
 use Rattle.krb_driver.specs.Messages.{numbered, message, file_message, line_message}
-use Rattle.krb_keytab.specs.Open.{open_fault_number}
-use Rattle.krb_ccache.specs.Open.{open_fault_number as cache_fault_number}
+use Rattle.krb_driver.specs.declared.not_opened.OpenFault.{OpenFault}
+use Rattle.krb_driver.specs.declared.not_opened.OpenFault.TheVariants as fault
+use Rattle.krb_driver.specs.NotOpened.{opening_number}
 pub use Rattle.krb_files.specs.declared.aftermath.Aftermath.{Aftermath}
 use Rattle.krb_files.specs.declared.aftermath.Aftermath.TheVariants.{LostChange, Mixed}
 pub use Rattle.krb_files.specs.declared.files.LoadFault.{LoadFault}
@@ -25,8 +26,6 @@ use Rattle.krb_text.specs.LineFault.{line_fault_number}
 pub use Rattle.krb_driver.specs.declared.file_name.NameSource.{NameSource}
 pub use Rattle.krb_driver.specs.declared.first_word.FirstWord.{FirstWord}
 use Rattle.krb_driver.specs.declared.file_name.NameSource.TheVariants.{Word}
-pub use Rattle.krb_driver.specs.declared.loading.NoKeytab.{NoKeytab}
-use Rattle.krb_driver.specs.declared.loading.NoKeytab.TheVariants.{Load, Open}
 pub use Rattle.krb_driver.specs.declared.error.RunError.{RunError}
 use Rattle.krb_driver.specs.declared.error.RunError.TheVariants as error
 use Rattle.krb_driver.specs.FirstWords.{first_word, line_at, safe_word}
@@ -91,15 +90,6 @@ load_error load.TooLarge = error.FileTooLarge
 load_error load.Failed = error.FileNotRead
 load_error load.NoMemory = error.NoMemory
 
--- the error for a file that gave no keytab, to list it or not
-abbrev pub list_error : Bool → NoKeytab → RunError
-list_error listed (Load fault) = load_error fault
-list_error listed (Open why) = if listed then error.NotAKeytabToList why else error.NotAKeytab why
-
--- the error for a file that gave no keytab
-abbrev pub no_keytab_error : NoKeytab → RunError
-no_keytab_error = list_error false
-
 -- the error with the source of the file's name, if it is that there is no such file
 abbrev pub error_of_name : NameSource → RunError → RunError
 error_of_name source (error.NoSuchFile other) = error.NoSuchFile source
@@ -117,6 +107,11 @@ output_error out.NoMemory = error.NoMemory
 
 -- ---- what is said of it
 
+-- what messages say of a file that did not open
+abbrev pub not_opened_said : OpenFault → List ℕ
+not_opened_said (fault.Keytab why) = numbered (codes "not a keytab (") (opening_number (fault.Keytab why)) (codes ")")
+not_opened_said (fault.Cache why) = numbered (codes "not a cache (") (opening_number (fault.Cache why)) (codes ")")
+
 -- what a message says of an error after the name of the file
 abbrev pub said_of_file : RunError → List ℕ
 said_of_file (error.DamagedInput fault) = refused Damaged
@@ -126,12 +121,7 @@ said_of_file error.TypedName = codes "cannot write"
 said_of_file error.FileTooLarge = codes "file too large"
 said_of_file error.FileNotRead = codes "cannot read"
 said_of_file error.FileNotWritten = codes "cannot write"
-said_of_file (error.NotAKeytab why) = numbered (codes "not a keytab (") (open_fault_number why.fault) (codes ")")
-said_of_file (error.NotAKeytabToList why) = numbered (codes "not a keytab (") (open_fault_number why.fault) (codes ")")
-said_of_file (error.NotACache why) = numbered (codes "not a cache (") (cache_fault_number why.fault) (codes ")")
-said_of_file (error.NotACacheToHold why) = numbered (codes "not a cache (") (cache_fault_number why.fault) (codes ")")
-said_of_file (error.NotACacheToMatch why) = numbered (codes "not a cache (") (cache_fault_number why.fault) (codes ")")
-said_of_file (error.NeitherToShow why) = numbered (codes "not a cache (") (cache_fault_number why.fault) (codes ")")
+said_of_file (error.NotOpened why) = not_opened_said why.fault
 said_of_file (error.Refused kind code) = refused code
 said_of_file error.NothingToCopy = refused NotFound
 said_of_file (error.NoTicketIn sought) = refused NotFound

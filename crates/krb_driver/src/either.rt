@@ -1,17 +1,14 @@
 //! Opens a file as a keytab or a cache, as its first bytes say.
 
 ghost use Rattle.std.specs.Prelude.{◌≡◌};
-ghost use Rattle.krb_driver.specs.Commands.{GivesOf};
-ghost use Rattle.krb_driver.specs.Composing.{Opens, opened};
-ghost use Rattle.krb_driver.specs.Either.{contents_in, contents_of, state_of};
-ghost use Rattle.krb_driver.specs.Loading.{Gives, result_map};
+ghost use Rattle.krb_driver.specs.Either.{contents_of, state_of};
+ghost use Rattle.krb_driver.specs.Loading.{result_map};
 
 use crate::beginning::begins_as;
-use crate::command::FileError;
 use crate::error::RunError;
-use crate::file_name::FileName;
 use crate::loading::{cache_of, keytab_of};
-use crate::opening::other_type;
+use crate::not_opened::Expected;
+use crate::opener::Opener;
 use krb_ccache::Ccache;
 use krb_files::Files;
 use krb_keytab::Keytab;
@@ -30,56 +27,36 @@ fn contents_of<A: Allocator>(v1_order: Order, image: Vec<u8, A>) -> Result<Conte
     ensures { result_map state_of result ≡ contents_of v1_order image.items }
 {
     if begins_as(&image).is_keytab() {
-        return match keytab_of(v1_order, image) {
-            Ok(keytab) => Ok(Contents::Keytab(keytab)),
-            Err(why) => Err(RunError::from(why)),
-        };
+        let keytab = keytab_of(Expected::Keytab, v1_order, image)?;
+        return Ok(Contents::Keytab(keytab));
     }
-    match cache_of(image) {
-        Ok(cache) => Ok(Contents::Cache(cache)),
-        Err(why) => Err(RunError::NeitherToShow(why)),
-    }
+    let cache = cache_of(Expected::Either, image)?;
+    Ok(Contents::Cache(cache))
 }
 
-// Loads the keytab or the cache of a file.
-fn load_either<A: Allocator, F: Files>(
-    alloc: A,
-    v1_order: Order,
-    files: &mut F,
-    name: &str,
-) -> Result<Contents<A>, RunError>
-    ensures { Gives F.Files files.old name.now (contents_in v1_order) (result_map state_of result) files.new }
-{
-    let image = files.load(alloc, name, USUAL_LIMIT)?;
-    contents_of(v1_order, image)
-}
+/// A keytab or a cache, as its first bytes say. The byte order is that of keytabs of version 1.
+#[derive(Clone, Copy)]
+pub struct EitherUse(pub Order);
 
-fn give_either<'a, A: Allocator, F: Files>(
-    alloc: A,
-    v1_order: Order,
-    files: &mut F,
-    file: FileName<'a>,
-) -> Result<Contents<A>, FileError<'a>>
-    ensures { GivesOf F.Files files.old file.entry (contents_in v1_order) (opened state_of result) files.new }
-{
-    if file.is_other_type {
-        return Err(other_type(file));
-    }
-    match load_either(alloc, v1_order, files, file.name) {
-        Ok(contents) => Ok(contents),
-        Err(error) => Err(FileError::of(file, error)),
-    }
-}
+impl<A: Allocator + Copy> Opener<A> for EitherUse {
+    ghost use Rattle.krb_driver.specs.Either.{EitherState, contents_in, state_of};
 
-/// Opens the keytab or the cache of a file.
-#[tactic(auto, using(crate::proofs::Making::opens_by))]
-pub fn open_either<'a, A: Allocator, F: Files>(
-    alloc: A,
-    v1_order: Order,
-    files: &mut F,
-    file: FileName<'a>,
-) -> Result<Contents<A>, FileError<'a>>
-    ensures { Opens F.Files files.old file.entry (contents_in v1_order) (opened state_of result) files.new }
-{
-    give_either(alloc, v1_order, files, file)
+    type Opened = Contents<A>;
+
+    ghost State = { EitherState };
+
+    ghost state_of = { state_of };
+
+    ghost gives = { λ either in_place. contents_in either.0 };
+
+    fn load<F: Files>(
+        &self,
+        alloc: A,
+        in_place: bool,
+        files: &mut F,
+        name: &str,
+    ) -> Result<Contents<A>, RunError> {
+        let image = files.load(alloc, name, USUAL_LIMIT)?;
+        contents_of(self.0, image)
+    }
 }

@@ -4,11 +4,11 @@ ghost use Rattle.std.specs.Prelude.{◌≡◌};
 ghost use Rattle.krb_driver.specs.declared.error.RunError.TheVariants as error;
 ghost use Rattle.krb_driver.specs.declared.verdict.FileKind.TheVariants.{Keytab};
 ghost use Rattle.krb_driver.specs.FirstWords.{first_word, line_at, safe_word};
-ghost use Rattle.krb_driver.specs.RunErrors.{error_of_name, error_status, input_error, list_error, load_error, no_keytab_error, output_error, save_error, script_error, word_error, aftermath_status, end_status, ending_status, is_spent};
+ghost use Rattle.krb_driver.specs.RunErrors.{error_of_name, error_status, input_error, load_error, output_error, save_error, script_error, word_error, aftermath_status, end_status, ending_status, is_spent};
 
 use crate::file_name::NameSource;
 use crate::first_word::FirstWord;
-use crate::loading::{NoKeytab, NotCache, NotKeytab};
+use crate::not_opened::NotOpened;
 use crate::verdict::{FileKind, TicketsSought, Verdict};
 use krb_files::{Aftermath, LoadFault, OutFault, SaveFault};
 use krb_text::{LineFault, ScriptRefusal};
@@ -41,16 +41,7 @@ pub enum RunError {
     FileTooLarge,
     FileNotRead,
     FileNotWritten,
-    NotAKeytab(NotKeytab),
-    /// Of a file that was to be listed as one.
-    NotAKeytabToList(NotKeytab),
-    NotACache(NotCache),
-    /// Of a file that was to be held as one.
-    NotACacheToHold(NotCache),
-    /// Of a file whose tickets were to be matched.
-    NotACacheToMatch(NotCache),
-    /// Of a file to show, which does not begin as a keytab and is no cache.
-    NeitherToShow(NotCache),
+    NotOpened(NotOpened),
     /// A file of that kind refused what the run was to do.
     Refused(FileKind, Code),
     /// No entry of the file is selected, so there is nothing to copy.
@@ -85,17 +76,6 @@ impl RunError {
             | RunError::OutputIsTerminal
             | RunError::ClockNotRead => 3,
             _ => 1,
-        }
-    }
-
-    /// Returns the error for a file that gave no keytab, which is to be listed or not.
-    pub fn of_listed(listed: bool, why: NoKeytab) -> RunError
-        ensures { result ≡ list_error listed why }
-    {
-        match why {
-            NoKeytab::Load(fault) => RunError::from(fault),
-            NoKeytab::Open(why) if listed => RunError::NotAKeytabToList(why),
-            NoKeytab::Open(why) => RunError::NotAKeytab(why),
         }
     }
 
@@ -158,14 +138,6 @@ impl From<LoadFault> for RunError {
             LoadFault::Failed => RunError::FileNotRead,
             LoadFault::NoMemory => RunError::NoMemory,
         }
-    }
-}
-
-impl From<NoKeytab> for RunError {
-    ghost from_gives = { λ why given. given ≡ no_keytab_error why };
-
-    fn from(why: NoKeytab) -> RunError {
-        RunError::of_listed(false, why)
     }
 }
 

@@ -9,6 +9,8 @@ mod error;
 mod file_name;
 mod first_word;
 mod loading;
+mod not_opened;
+mod opener;
 mod opening;
 mod reporting;
 mod several;
@@ -22,17 +24,14 @@ pub use command_line::spelled::{
     Spelled, spelled_etype, spelled_etypes, spelled_name, spelled_names, spelled_seconds,
 };
 pub use command_line::words::{CommandName, CommandWords, DRY_RUN, IN_PLACE, V1_BIG, Word};
-pub use either::{Contents, open_either};
+pub use either::{Contents, EitherUse};
 pub use error::{RunError, is_spent};
 pub use file_name::{FileName, NameSource, append_name, type_of};
 pub use first_word::FirstWord;
-pub use loading::{
-    NoKeytab, NotCache, NotKeytab, cache_of, keytab_of, load_keytab, load_or_new, read_input,
-};
-pub use opening::{
-    give_cache, give_or_empty, give_whole, hold, hold_if, open_cache, open_keytab, open_listed,
-    open_whole, open_whole_or_empty, open_writable, other_type, release, try_keytab, try_matched,
-};
+pub use loading::{cache_of, keytab_of, read_input};
+pub use not_opened::{Expected, NotOpened, OpenFault};
+pub use opener::{CacheUse, KeytabUse, Opener, give, open, try_open};
+pub use opening::{hold, hold_if, other_type, release};
 pub use reporting::details::{Details, details_of};
 pub use reporting::reported::replied_verdict;
 pub use reporting::{

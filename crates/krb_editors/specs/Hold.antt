@@ -1,18 +1,19 @@
 -- What hold does with an image, and how it is handed on.
-use Rattle.std.specs.Prelude.{ℕ, ◌+◌, ◌-◌, List, ◌++◌, length, drop, take, codes, decimal, ◌==◌, if◌then◌else◌, option_map, Option, None, Some, ◌≡◌, ◌⊎◌, nat_lt, Bool, true, false, bytes_eq, [], ◌∷◌, Result, Ok, Err, OnOk}
+use Rattle.std.specs.Prelude.{ℕ, ◌+◌, ◌-◌, List, ◌++◌, length, drop, take, codes, decimal, ◌==◌, if◌then◌else◌, option_map, Option, None, Some, ◌≡◌, nat_lt, Bool, true, false, bytes_eq, [], ◌∷◌, Result, Ok, Err, OnOk}
 use Rattle.std.specs.List.{position_from}
 use Rattle.krb_text.specs.Numbers.{number_in}
 use Rattle.krb_walk.specs.declared.refusal.Code.TheVariants.{Damaged}
 use Rattle.krb_walk.specs.Store.{fault_of}
 use Rattle.krb_keytab.specs.Store.{store_of}
-use Rattle.krb_ccache.specs.Store.{open_result as cache_result, store_of as cache_store}
+use Rattle.krb_ccache.specs.Store.{store_of as cache_store}
 use Rattle.krb_files.specs.declared.files.LoadFault.TheVariants.{Missing}
 use Rattle.krb_files.specs.declared.files.SaveFault.TheVariants.{Failed}
 use Rattle.krb_files.specs.Files.{SameFiles, CountsFailure}
-use Rattle.krb_files.specs.Loading.{Answer, LoadsFile, SavesFile, TurnsHold, most_bytes}
+use Rattle.krb_files.specs.Loading.{Answer, SavesFile, TurnsHold, most_bytes}
 use Rattle.krb_files.specs.Plan.{HeldIf}
 use Rattle.krb_files.specs.Bytes.{Source}
 use Rattle.krb_driver.specs.declared.error.RunError.TheVariants as error
+use Rattle.krb_driver.specs.declared.not_opened.Expected.TheVariants as expected
 use Rattle.krb_driver.specs.declared.reporting.details.Details.{Details}
 use Rattle.krb_driver.specs.declared.verdict.FileKind.{FileKind}
 use Rattle.krb_driver.specs.declared.verdict.FileKind.TheVariants as kind
@@ -21,7 +22,7 @@ use Rattle.krb_driver.specs.declared.error.RunError.{RunError}
 use Rattle.krb_driver.specs.declared.file_name.FileName.{FileName}
 use Rattle.krb_driver.specs.declared.command.World.{World}
 use Rattle.krb_driver.specs.Commands.{Ghosts, GivesOf, can_hold}
-use Rattle.krb_driver.specs.Loading.{GivesInput, not_cache, result_map, result_map_err, keytab_in}
+use Rattle.krb_driver.specs.Loading.{GivesInput, opened_cache, opened_keytab, result_map, result_map_err}
 use Rattle.krb_driver.specs.Mistakes.{Matched, v1_order, MistakeParts, for_keytabs}
 use Rattle.krb_driver.specs.RunErrors.{Fault, LoadFault, SaveFault, Ending, input_error, load_error, save_error}
 use Rattle.krb_driver.specs.Runs.{Reports, Shows}
@@ -73,8 +74,8 @@ file_kind Cache = kind.Cache
 
 -- the fault of a keytab or a cache in an image, if it has one; or why the image is none
 abbrev pub fault_in : HoldKind → List ℕ → Result (Option Fault) RunError
-fault_in (Keytab order) image = result_map (λ k. fault_of (store_of k)) (keytab_in order (Ok image))
-fault_in Cache image = result_map (λ k. fault_of (cache_store k)) (result_map_err (λ why. error.NotACacheToHold why) (result_map_err (not_cache image) (cache_result most_bytes image)))
+fault_in (Keytab order) image = result_map (λ k. fault_of (store_of k)) (opened_keytab expected.Keytab order image)
+fault_in Cache image = result_map (λ k. fault_of (cache_store k)) (opened_cache expected.CacheToHold image)
 
 -- an image, or the error if its keytab or cache has a fault
 abbrev pub unless_fault : (Fault → RunError) → List ℕ → Result (Option Fault) RunError → Result (List ℕ) RunError
@@ -111,12 +112,6 @@ received kind (Err fault) = Err (input_error fault)
 -- ---- the run
 
 module _ {F : Type 0} (trait : Ghosts F) where
-  -- a file was loaded, and this is the image that it gives; or memory ran out
-  pub record LoadsImage (old : F) (name : List ℕ) (gives : Answer → Result (List ℕ) RunError) (given : Result (List ℕ) RunError) (new : F) : Type 0 where
-    pub answer : Answer
-    pub loads : LoadsFile trait old name answer new
-    pub given_is : (given ≡ Err error.NoMemory) ⊎ (given ≡ gives answer)
-
   -- hold saw that the file is held and can be saved, as far as the hold shows, or `end` is the error; the files went from `old` to `new`
   pub record ChecksHold (file : List ℕ) (old : F) (end : Result (Unit {0}) (List ℕ × RunError)) (new : F) : Type 0 where
     pub answer : Result (Unit {0}) SaveFault

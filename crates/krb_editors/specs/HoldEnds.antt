@@ -2,8 +2,6 @@
 use Rattle.std.specs.Prelude.{ℕ, ◌+◌, List, ◌++◌, codes, decimal, Option, None, Some, ◌≡◌, IsTrue, Result, Ok, Err}
 use Rattle.krb_walk.specs.declared.refusal.Code.TheVariants.{Damaged}
 use Rattle.krb_walk.specs.Phrases.{code_number}
-use Rattle.krb_keytab.specs.Open.{open_fault_number}
-use Rattle.krb_ccache.specs.Open.{open_fault_number as cache_fault_number}
 use Rattle.krb_files.specs.declared.aftermath.Aftermath.TheVariants as aftermath
 use Rattle.krb_files.specs.declared.cause.Cause.{Cause}
 use Rattle.krb_files.specs.Bytes.{Watch}
@@ -13,6 +11,7 @@ use Rattle.krb_driver.specs.declared.command.FileError.{FileError}
 use Rattle.krb_driver.specs.declared.verdict.Verdict.TheVariants.{Well}
 use Rattle.krb_driver.specs.Loading.{result_map_err}
 use Rattle.krb_driver.specs.declared.error.RunError.{RunError}
+use Rattle.krb_driver.specs.NotOpened.{opening_number}
 use Rattle.krb_driver.specs.RunErrors.{Aftermath, Ending}
 use Rattle.krb_driver.specs.Runs.{Writes}
 use Rattle.krb_editors.specs.declared.hold.last_line.Outcome.{Outcome}
@@ -45,8 +44,7 @@ cause_name_or None = codes "EIO"
 
 -- why hold failed, for its last line: a number of krbfile.h for an image that does not open or is refused, or else a name of errno.h
 abbrev pub why_failed : RunError → Option Cause → List ℕ
-why_failed (error.NotAKeytab why) cause = decimal (10 + open_fault_number why.fault)
-why_failed (error.NotACacheToHold why) cause = decimal (10 + cache_fault_number why.fault)
+why_failed (error.NotOpened why) cause = decimal (10 + opening_number why.fault)
 why_failed (error.Refused kind code) cause = decimal (30 + code_number code)
 why_failed (error.DamagedInput fault) cause = decimal (30 + code_number Damaged)
 why_failed (error.NoSuchFile source) cause = codes "ENOENT"

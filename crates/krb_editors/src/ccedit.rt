@@ -18,8 +18,8 @@ use crate::edited::{may_change, read_script, replied};
 use krb_cache_text::{CacheLine, CcFormat, Request};
 use krb_ccache::{Ccache, Cred, Setting};
 use krb_driver::{
-    Command, CommandName, CommandWords, FileError, FileKind, FileName, IN_PLACE, Made, MakeResult,
-    Output, Word, World, end_before, give_cache, hold_if, run,
+    CacheUse, Command, CommandName, CommandWords, FileError, FileKind, FileName, IN_PLACE, Made,
+    MakeResult, Output, Word, World, end_before, give, hold_if, run,
 };
 use krb_files::Files;
 use krb_walk::{Event, Reply, Session};
@@ -222,7 +222,7 @@ impl<'f, A: Allocator + Copy> Command<A> for EditCache<'f, A> {
 
     fn make<F: Files>(&self, alloc: A, files: &mut F) -> MakeResult<'_, A, Self::Shown> {
         hold_if(may_any_change(&self.lines), files, self.file);
-        let cache = give_cache(alloc, files, self.file)?;
+        let cache = give(alloc, CacheUse::Read, files, self.file)?;
         Ok(edit(alloc, cache, &self.lines)?)
     }
 }

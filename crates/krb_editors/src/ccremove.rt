@@ -15,9 +15,9 @@ use crate::removing::{FilesSeen, run_removals};
 use krb_audit::{SelectedTickets, TicketCriteria, select_tickets};
 use krb_ccache::Ccache;
 use krb_driver::{
-    CommandName, CommandWords, DRY_RUN, FileError, FileKind, FileName, IN_PLACE, Made, MakeResult,
-    Matches, Output, OverFiles, Phrase, RunEnd, RunError, Verdict, Word, WordFault, World,
-    end_before, hold_if, label_of, open_writable, spelled_names, times_given,
+    CacheUse, CommandName, CommandWords, DRY_RUN, FileError, FileKind, FileName, IN_PLACE, Made,
+    MakeResult, Matches, Output, OverFiles, Phrase, RunEnd, RunError, Verdict, Word, WordFault,
+    World, end_before, hold_if, label_of, open, spelled_names, times_given,
 };
 use krb_files::Files;
 use krb_walk::Refusal;
@@ -241,7 +241,7 @@ impl<A: Allocator + Copy, B: Allocator> OverFiles<A> for RemoveTickets<'_, B> {
     ) -> MakeResult<'f, A, Output<A>> {
         let options = self.options;
         hold_if(!options.dry_run, files, file);
-        let cache = open_writable(alloc, files, file)?;
+        let cache = open(alloc, CacheUse::Change, files, file)?;
         remove(alloc, self, file, cache)
     }
 

@@ -1,10 +1,10 @@
 //! hold: prints the image of a file to another program, and saves the one that this gives back.
 
-ghost use Rattle.std.specs.Prelude.{◌≡◌, ◌∷◌, [], MatchResult, Some, option_map};
+ghost use Rattle.std.specs.Prelude.{◌≡◌, ◌⊎◌, ◌∷◌, [], Err, MatchResult, Some, option_map};
 ghost use Rattle.krb_driver.specs.declared.error.RunError.TheVariants.{NoMemory};
-ghost use Rattle.krb_driver.specs.Commands.{GivesOf};
-ghost use Rattle.krb_driver.specs.Loading.{result_map};
-ghost use Rattle.krb_editors.specs.Hold.{ChecksHold, EditsHeld, Exchanges, LoadsImage, Receives, RunsHold, SavesOther, held_in};
+ghost use Rattle.krb_driver.specs.Loading.{EndsLoads, result_map};
+ghost use Rattle.krb_files.specs.Files.{answer_of};
+ghost use Rattle.krb_editors.specs.Hold.{ChecksHold, EditsHeld, Exchanges, Receives, RunsHold, SavesOther, held_in};
 ghost use Rattle.krb_editors.specs.HoldEnds.{end_of};
 
 mod frame;
@@ -17,7 +17,7 @@ use crate::hold::images::{given_by, whole};
 use crate::hold::last_line::{Outcome, tell_end};
 use crate::hold::words::HoldKind;
 use krb_driver::{
-    Details, FileError, FileName, RunError, Verdict, World, details_of, hold_if, other_type,
+    Details, FileError, FileName, Opener, RunError, Verdict, World, details_of, give, hold_if,
     read_input, release, report,
 };
 use krb_files::{Cause, Files, LoadFault, Watched, WatchedReader};
@@ -35,41 +35,49 @@ fn empty_image<A: Allocator>(alloc: A) -> Result<Vec<u8, A>, RunError>
     }
 }
 
-// Loads the image of a file. A missing keytab that is not to be saved in place gives that of an empty one.
-fn load_whole<A: Allocator + Copy, F: Files>(
-    alloc: A,
-    kind: HoldKind,
-    files: &mut F,
-    file: FileName<'_>,
-) -> Result<Vec<u8, A>, RunError>
-    ensures { LoadsImage F.Files files.old file.entry.name.now (held_in kind file.entry.in_place)
-        (result_map (λ image. image.items) result) files.new }
-{
-    match files.load(alloc, file.name, USUAL_LIMIT) {
-        Ok(image) => whole(kind, image),
-        Err(LoadFault::Missing) if matches!(kind, HoldKind::Keytab(_)) && !file.in_place => {
-            empty_image(alloc)
+impl HoldKind {
+    // Gives the image of what was loaded. A missing keytab that is not to be saved in place gives that of an empty one.
+    fn opened<A: Allocator + Copy>(
+        self,
+        alloc: A,
+        in_place: bool,
+        loaded: Result<Vec<u8, A>, LoadFault>,
+    ) -> Result<Vec<u8, A>, RunError>
+        ensures gives { (result_map (λ image. image.items) result ≡ Err NoMemory)
+            ⊎ (result_map (λ image. image.items) result ≡ held_in self in_place (answer_of loaded)) }
+        ensures ends { EndsLoads (held_in self in_place) }
+    {
+        match loaded {
+            Ok(image) => whole(self, image),
+            Err(LoadFault::Missing) if matches!(self, HoldKind::Keytab(_)) && !in_place => {
+                empty_image(alloc)
+            }
+            Err(fault) => Err(RunError::from(fault)),
         }
-        Err(fault) => Err(RunError::from(fault)),
     }
 }
 
-// Gives the image of a file. Each error names it.
-fn give_whole<'a, A: Allocator + Copy, F: Files>(
-    alloc: A,
-    kind: HoldKind,
-    files: &mut F,
-    file: FileName<'a>,
-) -> Result<Vec<u8, A>, FileError<'a>>
-    ensures { GivesOf F.Files files.old file.entry (held_in kind file.entry.in_place)
-        (result_map (λ image. image.items) (end_of result)) files.new }
-{
-    if file.is_other_type {
-        return Err(other_type(file));
-    }
-    match load_whole(alloc, kind, files, file) {
-        Ok(image) => Ok(image),
-        Err(error) => Err(FileError::of(file, error)),
+impl<A: Allocator + Copy> Opener<A> for HoldKind {
+    ghost use Rattle.std.specs.Prelude.{List, ℕ};
+    ghost use Rattle.krb_editors.specs.Hold.{held_in};
+
+    type Opened = Vec<u8, A>;
+
+    ghost State = { List ℕ };
+
+    ghost state_of = { λ image. image.items };
+
+    ghost gives = { held_in };
+
+    fn load<F: Files>(
+        &self,
+        alloc: A,
+        in_place: bool,
+        files: &mut F,
+        name: &str,
+    ) -> Result<Vec<u8, A>, RunError> {
+        let loaded = files.load(alloc, name, USUAL_LIMIT);
+        self.opened(alloc, in_place, loaded)
     }
 }
 
@@ -163,7 +171,7 @@ fn edit_held<'a, A: Allocator + Copy, F: Files, R: Read, W: Write, E: Write>(
 {
     let files = &mut world.files;
     hold_if(true, files, file);
-    let loaded = match give_whole(alloc, kind, files, file) {
+    let loaded = match give(alloc, kind, files, file) {
         Ok(loaded) => loaded,
         Err(met) => return Err(met),
     };

@@ -20,9 +20,9 @@ use crate::selecting::{
 use krb_audit::{SelectedKvno, Selection, hides_added, selected_entries};
 use krb_copy::{Copied, copy_into};
 use krb_driver::{
-    Command, CommandName, CommandWords, FileError, FileName, IN_PLACE, Made, MakeResult, Matches,
-    Mistake, Output, Phrase, RunError, V1_BIG, Verdict, Word, WordFault, World, hold_if,
-    open_whole, open_whole_or_empty, refuse_twice, run, times_given, v1_order,
+    Command, CommandName, CommandWords, FileError, FileName, IN_PLACE, KeytabUse, Made, MakeResult,
+    Matches, Mistake, Output, Phrase, RunError, V1_BIG, Verdict, Word, WordFault, World, hold_if,
+    open, refuse_twice, run, times_given, v1_order,
 };
 use krb_files::Files;
 use krb_keytab::{EntryView, Keytab};
@@ -248,7 +248,7 @@ fn copy_to<'a, A: Allocator + Copy, B: Allocator, F: Files>(
 {
     let options = command.options;
     hold_if(!options.dry_run, files, command.to);
-    let to = open_whole_or_empty(alloc, options.v1_order, files, command.to)?;
+    let to = open(alloc, KeytabUse::Fill(options.v1_order), files, command.to)?;
     copy(alloc, command, entries, to)
 }
 
@@ -290,7 +290,7 @@ impl<'f, A: Allocator + Copy, B: Allocator> Command<A> for CopyEntries<'f, B> {
 
     fn make<F: Files>(&self, alloc: A, files: &mut F) -> MakeResult<'_, A, Self::Shown> {
         let options = self.options;
-        let from = open_whole(alloc, options.v1_order, files, self.from)?;
+        let from = open(alloc, KeytabUse::Change(options.v1_order), files, self.from)?;
         copy_from(alloc, self, &from, files)
     }
 }

@@ -10,8 +10,8 @@ use crate::selecting::{OF_ENCTYPE, OF_PRINCIPAL, spelled_selection};
 use krb_audit::{SelectedKvno, Selection, selected_entries};
 use krb_copy::diff_text;
 use krb_driver::{
-    Command, CommandName, CommandWords, FileError, FileName, Made, MakeResult, Matches, Output,
-    RunError, V1_BIG, Verdict, Word, WordFault, World, open_whole, run, v1_order,
+    Command, CommandName, CommandWords, FileError, FileName, KeytabUse, Made, MakeResult, Matches,
+    Output, RunError, V1_BIG, Verdict, Word, WordFault, World, open, run, v1_order,
 };
 use krb_files::Files;
 use krb_keytab::{EntryView, Keytab};
@@ -152,7 +152,12 @@ fn differ_from<'a, A: Allocator + Copy, B: Allocator, F: Files>(
         (text_effect command.now.ours.name.now result) files.new }
 {
     let options = command.options;
-    let others = open_whole(alloc, options.v1_order, files, command.others)?;
+    let others = open(
+        alloc,
+        KeytabUse::Change(options.v1_order),
+        files,
+        command.others,
+    )?;
     differ(alloc, command, ours, &others)
 }
 
@@ -171,7 +176,7 @@ impl<'f, A: Allocator + Copy, B: Allocator> Command<A> for DiffEntries<'f, B> {
 
     fn make<F: Files>(&self, alloc: A, files: &mut F) -> MakeResult<'_, A, Self::Shown> {
         let options = self.options;
-        let ours = open_whole(alloc, options.v1_order, files, self.ours)?;
+        let ours = open(alloc, KeytabUse::Change(options.v1_order), files, self.ours)?;
         differ_from(alloc, self, &ours, files)
     }
 }

@@ -11,8 +11,8 @@ use crate::added::run_following;
 use crate::edited::{may_any_change, read_script, replied};
 use krb_audit::hides_added;
 use krb_driver::{
-    Command, CommandName, CommandWords, FileError, FileKind, FileName, IN_PLACE, Made, MakeResult,
-    Output, V1_BIG, Word, World, end_before, give_or_empty, hold_if, run,
+    Command, CommandName, CommandWords, FileError, FileKind, FileName, IN_PLACE, KeytabUse, Made,
+    MakeResult, Output, V1_BIG, Word, World, end_before, give, hold_if, run,
 };
 use krb_files::Files;
 use krb_keytab::{Indexed, Keytab, NewEntry};
@@ -116,7 +116,7 @@ impl<'f, A: Allocator + Copy> Command<A> for EditKeytab<'f, A> {
 
     fn make<F: Files>(&self, alloc: A, files: &mut F) -> MakeResult<'_, A, Self::Shown> {
         hold_if(may_any_change(&self.events), files, self.file);
-        let keytab = give_or_empty(alloc, self.v1_order, files, self.file)?;
+        let keytab = give(alloc, KeytabUse::Edit(self.v1_order), files, self.file)?;
         Ok(edit(alloc, keytab, &self.events)?)
     }
 }

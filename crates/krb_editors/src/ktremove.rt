@@ -15,9 +15,9 @@ use crate::removing::{FilesSeen, run_removals};
 use crate::selecting::{OF_ENCTYPE, OF_PRINCIPAL, spelled_kvno, spelled_selection};
 use krb_audit::{Selected, SelectedKvno, Selection, select};
 use krb_driver::{
-    CommandName, CommandWords, DRY_RUN, FileError, FileKind, FileName, IN_PLACE, Made, MakeResult,
-    Matches, Mistake, Output, OverFiles, Phrase, RunEnd, RunError, V1_BIG, Verdict, Word,
-    WordFault, World, end_before, first_value, hold_if, label_of, open_whole, refuse_twice,
+    CommandName, CommandWords, DRY_RUN, FileError, FileKind, FileName, IN_PLACE, KeytabUse, Made,
+    MakeResult, Matches, Mistake, Output, OverFiles, Phrase, RunEnd, RunError, V1_BIG, Verdict,
+    Word, WordFault, World, end_before, first_value, hold_if, label_of, open, refuse_twice,
     spelled_seconds, times_given, v1_order,
 };
 use krb_files::Files;
@@ -241,7 +241,7 @@ impl<A: Allocator + Copy, B: Allocator> OverFiles<A> for RemoveEntries<'_, B> {
     ) -> MakeResult<'f, A, Output<A>> {
         let options = self.options;
         hold_if(!options.dry_run, files, file);
-        let keytab = open_whole(alloc, options.v1_order, files, file)?;
+        let keytab = open(alloc, KeytabUse::Change(options.v1_order), files, file)?;
         remove(alloc, self, file, keytab)
     }
 

@@ -16,8 +16,8 @@ pub use Rattle.krb_driver.proofs.Shown.{end_status-none, Writes-nothing, Reports
 pub use Rattle.krb_driver.specs.Commands.{Fails, Effect}
 pub use Rattle.krb_driver.specs.Runs.{ErrorWatch, Reports, ReportsEnd, Run, WritesOn, ends_by, Shows}
 pub use Rattle.krb_driver.specs.FileNames.{is_other_type, bare_name, has_type}
-pub use Rattle.krb_driver.specs.Loading.{keytab_or_new, keytab_of, Gives, result_map, GivesOrRunsOut}
-pub use Rattle.krb_driver.specs.RunErrors.{error_status, input_error, is_spent, no_keytab_error, Ending, end_status}
+pub use Rattle.krb_driver.specs.Loading.{keytab_or_empty, keytab_in, EndsLoads, GivesOrIsSpent, result_map}
+pub use Rattle.krb_driver.specs.RunErrors.{error_status, input_error, is_spent, Ending, end_status}
 pub use Rattle.krb_files.specs.Bytes.{Watch, is_failed, Source, AppendsPrefix}
 pub use Rattle.krb_files.specs.Loading.{Answer, LoadsFile, most_bytes}
 pub use Rattle.krb_files.specs.Plan.{Ends, Loads, follow, by, Holds}
@@ -32,7 +32,6 @@ pub use Rattle.krb_driver.specs.declared.verdict.FileKind.TheVariants.{Keytab}
 pub use Rattle.krb_walk.specs.Store.{fault_of, Record, records}
 pub use Rattle.krb_files.specs.Files.{CountsFailure, FileMap, SameFiles}
 pub use Rattle.krb_files.proofs.PlanLaws.{Lasts, comes, loaded-lasts, count-more, count-trans, same-trans}
-pub use Rattle.krb_driver.specs.declared.loading.NoKeytab.{NoKeytab}
 pub use Rattle.krb_driver.proofs.Running.{finishes-keeps, finishes-lasts}
 pub use Rattle.std.proofs.lemmas.Grind.{common_steps, flat_map-append}
 pub use Rattle.krb_files.proofs.Reading.{Consumes-trans}

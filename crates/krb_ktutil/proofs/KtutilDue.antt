@@ -1,5 +1,5 @@
 -- What a line of ktutil comes to: what it leaves, and that it is what is due over honest files.
-use Rattle.krb_ktutil.proofs.Cited.{◌≡◌, ◌⊎◌, inl, inr, ◌∙◌, ℕ, ◌≤◌, Bool, true, false, List, [], ◌∷◌, length, refl, sym, ap, subst, arith, Option, Result, Ok, Err, Code, KeytabState, Ghosts, Watch, Ends, LineFault, Effect, Fails, ErrorWatch, Awaited, words, Awaiting, Nothing, KtutilState, Came, Added, fails, line_faults, none_added, with_added, plan_of, EndsAt, IsCame, is_some, store_of, Answer, Holds, Loads, by, follow, bare_name, has_type, is_other_type, keytab_of, keytab_or_new, is_spent, no_keytab_error, Command, Skip, ListSlots, ReadFile, WriteFile, AwaitKey, DeleteSlot, ClearList, Quit, asks_for_password, command_of, Key, Password, LinePlan, with_entries, saved_as, written_to, key_line, with_key, command_plan, plan_by, words_plan, MakesLine, Spares, cond_both, fault_of, CountsFailure, Lasts, comes, loaded-lasts, NoKeytab, Keytab, finishes-keeps, finishes-lasts, asks_for_help, fault_error}
+use Rattle.krb_ktutil.proofs.Cited.{◌≡◌, ◌⊎◌, inl, inr, ◌∙◌, ℕ, ◌≤◌, Bool, true, false, List, [], ◌∷◌, length, refl, sym, ap, subst, arith, Option, Result, Ok, Err, Code, KeytabState, Ghosts, Watch, Ends, LineFault, Effect, Fails, ErrorWatch, Awaited, words, Awaiting, Nothing, KtutilState, Came, Added, fails, line_faults, none_added, with_added, plan_of, EndsAt, IsCame, is_some, store_of, Answer, Holds, Loads, by, follow, bare_name, has_type, is_other_type, keytab_in, keytab_or_empty, is_spent, Command, Skip, ListSlots, ReadFile, WriteFile, AwaitKey, DeleteSlot, ClearList, Quit, asks_for_password, command_of, Key, Password, LinePlan, with_entries, saved_as, written_to, key_line, with_key, command_plan, plan_by, words_plan, MakesLine, Spares, cond_both, fault_of, CountsFailure, Lasts, comes, loaded-lasts, RunError, Keytab, finishes-keeps, finishes-lasts, asks_for_help, fault_error}
 use Rattle.krb_files.specs.declared.files.LoadFault.TheVariants as load
 use Rattle.krb_text.specs.declared.line_fault.LineFault.TheVariants as fault
 use Rattle.krb_driver.specs.declared.command.RunEnd.{RunEnd}
@@ -40,23 +40,23 @@ module _ (s : KtutilState) where
   fails-careful : (file : List ℕ) (why : RunError) → Careful s (fails s file why)
   fails-careful file why = (refl, λ is. refl)
 
-  entries-careful : (number : ℕ) (name : List ℕ) (given : Result KeytabState NoKeytab) → Careful s (with_entries s number name given)
+  entries-careful : (number : ℕ) (name : List ℕ) (given : Result KeytabState RunError) → Careful s (with_entries s number name given)
   entries-careful number name (Ok k) = cond_both (is_some (fault_of (store_of k))) _ _ (Careful s) (λ _. fails-careful name _) (λ _. refl)
-  entries-careful number name (Err why) = fails-careful name (no_keytab_error why)
+  entries-careful number name (Err why) = fails-careful name why
 
   saved-careful : (number : ℕ) (name : List ℕ) (added : Result Added Code) → Careful s (saved_as s number name added)
   saved-careful number name (Ok x) = refl
   saved-careful number name (Err refused) = fails-careful name _
 
-  written-careful : (number : ℕ) (name : List ℕ) (given : Result KeytabState NoKeytab) → Careful s (written_to s number name given)
+  written-careful : (number : ℕ) (name : List ℕ) (given : Result KeytabState RunError) → Careful s (written_to s number name given)
   written-careful number name (Ok k) = saved-careful number name (with_added s.entries (Ok (none_added k)))
-  written-careful number name (Err why) = fails-careful name (no_keytab_error why)
+  written-careful number name (Err why) = fails-careful name why
 
   command-careful : (number : ℕ) (command : Command) → AllCareful s (command_plan s number command)
   command-careful number Skip = refl
   command-careful number (ListSlots columns) = refl
-  command-careful number (ReadFile word) = cond_both (is_other_type Keytab word) _ _ (AllCareful s) (λ _. fails-careful (bare_name Keytab word) _) (λ _ answer. entries-careful number (bare_name Keytab word) (keytab_of s.order answer))
-  command-careful number (WriteFile word) = cond_both (has_type word) _ _ (AllCareful s) (λ _. fails-careful word error.TypedName) (λ _ answer. written-careful number word (keytab_or_new s.order false answer))
+  command-careful number (ReadFile word) = cond_both (is_other_type Keytab word) _ _ (AllCareful s) (λ _. fails-careful (bare_name Keytab word) _) (λ _ answer. entries-careful number (bare_name Keytab word) (keytab_in s.order answer))
+  command-careful number (WriteFile word) = cond_both (has_type word) _ _ (AllCareful s) (λ _. fails-careful word error.TypedName) (λ _ answer. written-careful number word (keytab_or_empty s.order false answer))
   command-careful number (AwaitKey awaited) = refl
   command-careful number (DeleteSlot slot) = refl
   command-careful number ClearList = refl

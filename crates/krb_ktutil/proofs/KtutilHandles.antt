@@ -1,5 +1,5 @@
 -- A line was made by its plan, from its steps, and with the entries of a keytab.
-use Rattle.krb_ktutil.proofs.Cited.{◌≡◌, ◌∙◌, sym, ℕ, List, [], ◌∷◌, Option, Some, None, refl, ap, Result, Ok, Err, EntryParts, KeytabState, Code, Added, with_added, map, option_map, filter_map, cons_option, entry_at, store_of, entries, result_map, more_added, RefusesAdded, inl, inr, Bool, true, false, subst, false≢true, Ghosts, Ends, LineFault, words, Effect, Fails, Awaited, Awaiting, KtutilState, Came, plan_of, fails, line_faults, none_added, EndsAt, IsCame, line_effect, Answer, LoadsFile, Holds, Loads, by, has_type, keytab_of, keytab_or_new, Gives, GivesOrRunsOut, AwaitKey, Command, WriteFile, after, asks_for_password, command_by, command_of, verb_of, LinePlan, after_fault, plan_by, command_plan, reading_plan, saved_as, with_entries, words_plan, writing_plan, written_to, Attempts, Comes, MakesLine, RunsOut, Tries, Record, records, Order, LineRefusal, Reads, NoKeytab, fault_error}
+use Rattle.krb_ktutil.proofs.Cited.{◌≡◌, ◌∙◌, sym, ℕ, List, [], ◌∷◌, Option, Some, None, refl, ap, Result, Ok, Err, EntryParts, KeytabState, Code, Added, with_added, map, option_map, filter_map, cons_option, entry_at, store_of, entries, result_map, more_added, RefusesAdded, inl, inr, Bool, true, false, subst, false≢true, Ghosts, Ends, LineFault, words, Effect, Fails, Awaited, Awaiting, KtutilState, Came, plan_of, fails, line_faults, none_added, EndsAt, IsCame, line_effect, Answer, LoadsFile, Holds, Loads, by, has_type, EndsLoads, GivesOrIsSpent, AwaitKey, Command, WriteFile, after, asks_for_password, command_by, command_of, verb_of, LinePlan, after_fault, plan_by, command_plan, reading_plan, saved_as, with_entries, words_plan, writing_plan, written_to, Attempts, Comes, MakesLine, RunsOut, Tries, Record, records, Order, LineRefusal, Reads, RunError, fault_error}
 use Rattle.krb_wire.specs.declared.format.KtFormat.{KtFormat}
 use Rattle.krb_keytab.specs.Find.{PlacedEntry, placed_entries}
 use Rattle.krb_keytab.specs.Changes.{put_result}
@@ -81,22 +81,15 @@ module _ {F : Type 0} (trait : Ghosts F) where
   makes_loaded s new name then_ failed spent answer files between effect quits loads (inr out) =
       record { answers = answer ∷ []; loads = (between, (loads, (refl, refl))); came = fails s out.spent.0 error.NoMemory; made = inr (refl, (out.spent.0, refl)); is = ran_out out }
 
-  -- a load whose keytab was read
-  pub makes_read : (s new : KtutilState) (number : ℕ) (name : List ℕ) (files between : F) (given : Result KeytabState NoKeytab) (effect : Effect) (quits : Bool)
-      → (order : Order) → order ≡ s.order → Gives trait files name (keytab_of order) given between → Comes (with_entries s number name given) s new effect quits → MakesLine trait (reading_plan s number name) files between s new effect quits
-  makes_read s new number name files between given effect quits order same_order gives comes =
-      let is = subst (λ (o : Order). keytab_of o gives.answer ≡ given) same_order gives.gives in
-      makes_loaded s new name (λ answer. with_entries s number name (keytab_of s.order answer)) refl refl gives.answer files between effect quits gives.loads
-      (subst (λ (r : Result KeytabState NoKeytab). Comes (with_entries s number name r) s new effect quits) (sym is) comes)
-
-  -- a load whose keytab is to be written, or that gave none
-  pub makes_written : (s : KtutilState) (number : ℕ) (name : List ℕ) (files between : F) (given : Result KeytabState NoKeytab) (effect : Effect) (quits : Bool)
-      → (order : Order) → order ≡ s.order → GivesOrRunsOut trait files name (keytab_or_new order false) given between → Comes (written_to s number name given) s s effect quits → MakesLine trait (writing_plan s number name) files between s s effect quits
-  makes_written s number name files between given effect quits order same_order gives comes =
-      let Due : Result KeytabState NoKeytab → Type 0 = λ r. Comes (written_to s number name r) s s effect quits in
-      makes_loaded s s name (λ answer. written_to s number name (keytab_or_new s.order false answer)) refl refl gives.answer files between effect quits gives.loads (elim gives.gives [
-        | inl is ↦ subst Due (sym (subst (λ (o : Order). keytab_or_new o false gives.answer ≡ given) same_order is)) comes
-        | inr none ↦ elim (subst Due none comes) [ inl is ↦ inr (record { state_is = is.state_is; spent = (name, is.effect_is); goes_on = is.quits_is }) | inr out ↦ inr out ]
+  -- a load, and what was made of what it gave, or of its error
+  pub makes_given : (s new : KtutilState) (name : List ℕ) (came : Result KeytabState RunError → Came) → ((why : RunError) → came (Err why) ≡ fails s name why)
+      → (gives : Answer → Result KeytabState RunError) → EndsLoads gives → (files between : F) (given : Result KeytabState RunError) (effect : Effect) (quits : Bool)
+      → GivesOrIsSpent trait files name gives given between → Comes (came given) s new effect quits → MakesLine trait (Loads name (λ answer. Ends (came (gives answer)))) files between s new effect quits
+  makes_given s new name came failed gives ends files between given effect quits gave comes =
+      let Due : Result KeytabState RunError → Type 0 = λ r. Comes (came r) s new effect quits in
+      makes_loaded s new name (λ answer. came (gives answer)) (ap came ends.failed ∙ failed error.FileNotRead) (ap came ends.spent ∙ failed error.NoMemory) gave.answer files between effect quits gave.loads (elim gave.gives [
+        | inl spent ↦ elim (subst (λ (c : Came). Comes c s new effect quits) (failed error.NoMemory) (subst Due spent comes)) [ inl is ↦ inr (record { state_is = is.state_is; spent = (name, is.effect_is); goes_on = is.quits_is }) | inr out ↦ inr out ]
+        | inr is ↦ subst Due is comes
       ])
 
   -- ---- commands

@@ -16,15 +16,14 @@ use Rattle.krb_ktutil.specs.declared.ktutil.awaiting.Awaiting.TheVariants.{Nothi
 use Rattle.krb_driver.specs.declared.error.RunError.{RunError}
 use Rattle.krb_driver.specs.declared.error.RunError.TheVariants as error
 use Rattle.krb_driver.specs.declared.file_name.NameSource.TheVariants.{Word}
-use Rattle.krb_driver.specs.declared.loading.NoKeytab.{NoKeytab}
 use Rattle.krb_driver.specs.declared.verdict.FileKind.TheVariants.{Keytab}
 use Rattle.krb_driver.specs.declared.verdict.Verdict.{Verdict}
 use Rattle.krb_driver.specs.declared.verdict.Verdict.TheVariants.{Well, NoEntry}
 use Rattle.krb_driver.specs.Commands.{Effect, Fails, Displays, Saves, text, IsSpent}
 use Rattle.krb_driver.specs.Composing.{text_effect}
 use Rattle.krb_driver.specs.FileNames.{bare_name, has_type, is_other_type}
-use Rattle.krb_driver.specs.Loading.{keytab_of, keytab_or_new, result_map}
-use Rattle.krb_driver.specs.RunErrors.{hiding, no_keytab_error}
+use Rattle.krb_driver.specs.Loading.{keytab_in, keytab_or_empty, result_map}
+use Rattle.krb_driver.specs.RunErrors.{hiding}
 use Rattle.krb_audit.specs.Findings.{hides_added}
 use Rattle.krb_keytab_text.specs.Listing.{slot_text}
 use Rattle.krb_text.specs.Word.{key_word}
@@ -87,8 +86,8 @@ line_faults s = record { unread = λ name. fails s name error.FileNotRead; spent
 -- ---- files
 
 -- what `read_kt` comes to: the entries of a keytab are appended to the list, unless the keytab is damaged
-abbrev pub with_entries : KtutilState → ℕ → List ℕ → Result KeytabState NoKeytab → Came
-with_entries s number name (Err why) = fails s name (no_keytab_error why)
+abbrev pub with_entries : KtutilState → ℕ → List ℕ → Result KeytabState RunError → Came
+with_entries s number name (Err why) = fails s name why
 with_entries s number name (Ok k) =
     if is_some (fault_of (store_of k)) then fails s name (error.LineRefused number code.Damaged)
     else grows_to (record s { entries = s.entries ++ entries k })
@@ -127,9 +126,9 @@ saved_as s number name (Ok x) = record { state = s; effect = Saves name (image_o
 saved_as s number name (Err refused) = fails s name (error.LineRefused number refused)
 
 -- the entries of the list are added to a keytab, and the keytab is saved
-abbrev pub written_to : KtutilState → ℕ → List ℕ → Result KeytabState NoKeytab → Came
+abbrev pub written_to : KtutilState → ℕ → List ℕ → Result KeytabState RunError → Came
 written_to s number name (Ok k) = saved_as s number name (with_added s.entries (Ok (none_added k)))
-written_to s number name (Err why) = fails s name (no_keytab_error why)
+written_to s number name (Err why) = fails s name why
 
 -- ---- a key
 
@@ -150,11 +149,11 @@ with_key s number line x now (Err fault) = fails (record s { awaiting = Nothing 
 
 -- the entries of a file are appended to the list
 abbrev pub reading_plan : KtutilState → ℕ → List ℕ → LinePlan
-reading_plan s number name = Loads name (λ answer. Ends (with_entries s number name (keytab_of s.order answer)))
+reading_plan s number name = Loads name (λ answer. Ends (with_entries s number name (keytab_in s.order answer)))
 
 -- the list is added to the keytab of a file
 abbrev pub writing_plan : KtutilState → ℕ → List ℕ → LinePlan
-writing_plan s number name = Loads name (λ answer. Ends (written_to s number name (keytab_or_new s.order false answer)))
+writing_plan s number name = Loads name (λ answer. Ends (written_to s number name (keytab_or_empty s.order false answer)))
 
 -- what ktutil awaits after a faulty line: a password, if the line asks for one
 abbrev pub after_fault : Bool → KtutilState → KtutilState

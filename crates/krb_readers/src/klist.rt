@@ -14,8 +14,8 @@ use crate::klist::words::{KlistOptions, ListKind};
 use krb_cache_text::{CcColumns, list_cache};
 use krb_ccache::Ccache;
 use krb_driver::{
-    FileError, FileName, Made, MakeResult, OverFiles, RunEnd, RunError, Show, Verdict, World,
-    open_cache, open_listed, run_over,
+    CacheUse, FileError, FileName, KeytabUse, Made, MakeResult, OverFiles, RunEnd, RunError, Show,
+    Verdict, World, open, run_over,
 };
 use krb_files::{Files, OutFault, Watched, put};
 use krb_json::{cache_json, keytab_json};
@@ -152,11 +152,11 @@ impl<A: Allocator + Copy> OverFiles<A> for ListFiles<'_> {
     ) -> MakeResult<'f, A, Listing<A>> {
         match self.options.kind {
             ListKind::Keytab(columns) => {
-                let keytab = open_listed(alloc, self.options.v1_order, files, file)?;
+                let keytab = open(alloc, KeytabUse::List(self.options.v1_order), files, file)?;
                 shown(self, is_after, file, Listed::Keytab(columns, keytab))
             }
             ListKind::Cache(columns) => {
-                let cache = open_cache(alloc, files, file)?;
+                let cache = open(alloc, CacheUse::Read, files, file)?;
                 shown(self, is_after, file, Listed::Cache(columns, cache))
             }
         }

@@ -12,8 +12,8 @@ use crate::file_page::{FilePage, refused};
 use crate::ktcheck::page::{CheckObject, check_lines};
 use crate::ktcheck::words::CheckOptions;
 use krb_driver::{
-    FileError, FileName, Made, MakeResult, OverFiles, RunEnd, RunError, Verdict, World, end_before,
-    run_over, try_keytab,
+    FileError, FileName, KeytabUse, Made, MakeResult, OverFiles, RunEnd, RunError, Verdict, World,
+    end_before, run_over, try_open,
 };
 use krb_files::Files;
 use krb_findings::FindingSet;
@@ -75,7 +75,7 @@ impl<'c, A: Allocator + Copy, B: Allocator> OverFiles<A> for CheckFiles<'c, B> {
         files: &mut F,
     ) -> MakeResult<'f, A, FilePage<A, CheckObject<'c, A, B>>> {
         let options = self.options;
-        let keytab = match try_keytab(alloc, options.v1_order, files, file) {
+        let keytab = match try_open(alloc, KeytabUse::Read(options.v1_order), files, file) {
             Ok(keytab) => keytab,
             Err(why) => return refused(options.json, file, why),
         };

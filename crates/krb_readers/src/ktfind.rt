@@ -6,8 +6,8 @@ ghost use Rattle.krb_readers.specs.Ktfind.{entry_sought_of, finds, ktfind_plan, 
 ghost use Rattle.krb_driver.specs.Spelled.{ReadsAs, Spells};
 
 use krb_driver::{
-    Command, CommandName, CommandWords, FileError, FileName, Made, MakeResult, Matches, Mistake,
-    Output, Phrase, RunError, V1_BIG, Verdict, Word, WordFault, World, open_keytab, run,
+    Command, CommandName, CommandWords, FileError, FileName, KeytabUse, Made, MakeResult, Matches,
+    Mistake, Output, Phrase, RunError, V1_BIG, Verdict, Word, WordFault, World, open, run,
     spelled_etype, spelled_name, v1_order,
 };
 use krb_files::Files;
@@ -141,7 +141,7 @@ impl<'f, A: Allocator + Copy, B: Allocator> Command<A> for FindEntry<'f, B> {
 
     fn make<F: Files>(&self, alloc: A, files: &mut F) -> MakeResult<'_, A, Self::Shown> {
         let options = self.options;
-        let keytab = open_keytab(alloc, options.v1_order, files, self.file)?;
+        let keytab = open(alloc, KeytabUse::Read(options.v1_order), files, self.file)?;
         find(alloc, self, &keytab)
     }
 }

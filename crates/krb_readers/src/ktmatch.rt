@@ -17,8 +17,8 @@ use crate::ktmatch::state::MatchState;
 use crate::ktmatch::verdict::sought;
 use crate::ktmatch::words::MatchOptions;
 use krb_driver::{
-    Details, ErrorOutput, FileError, FileName, Judged, Made, Output, Ran, RunError, TicketsSought,
-    World, finish, give_whole, name_near, report, run_over,
+    Details, ErrorOutput, FileError, FileName, Judged, KeytabUse, Made, Output, Ran, RunError,
+    TicketsSought, World, finish, give, name_near, report, run_over,
 };
 use krb_files::Files;
 use krb_keytab::Keytab;
@@ -185,7 +185,7 @@ fn load<'a, A: Allocator, B: Allocator, F: Files>(
 ) -> Result<Keytab<A>, FileError<'a>>
     ensures { GivesOf F.Files files.old keytab.entry (whole_in options.now.v1_order) (opened (λ k. k.state) result) files.new }
 {
-    give_whole(alloc, options.v1_order, files, keytab)
+    give(alloc, KeytabUse::Change(options.v1_order), files, keytab)
 }
 
 /// Says of the tickets of caches, one cache after the other, whether a keytab opens them, and returns the greatest status.

@@ -12,8 +12,8 @@ ghost use Rattle.krb_readers.specs.Show.{ShowsAll, block, show_plan, shows, view
 
 use crate::show::words::ShowOptions;
 use krb_driver::{
-    Contents, FileError, FileName, Made, MakeResult, Output, OverFiles, RunEnd, RunError, Verdict,
-    World, append_name, end_before, open_either, run_over,
+    Contents, EitherUse, FileError, FileName, Made, MakeResult, Output, OverFiles, RunEnd,
+    RunError, Verdict, World, append_name, end_before, open, run_over,
 };
 use krb_files::Files;
 use krb_show::{append_cache_view, append_keytab_view};
@@ -109,7 +109,7 @@ impl<A: Allocator + Copy> OverFiles<A> for ShowFiles {
         file: FileName<'f>,
         files: &mut F,
     ) -> MakeResult<'f, A, Output<A>> {
-        let of = open_either(alloc, self.v1_order, files, file)?;
+        let of = open(alloc, EitherUse(self.v1_order), files, file)?;
         shown(alloc, self.now, is_after, file.name, of)
     }
 

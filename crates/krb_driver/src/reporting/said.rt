@@ -2,9 +2,10 @@
 
 ghost use Rattle.std.specs.Prelude.{◌≡◌, ◌++◌, OnOk};
 ghost use Rattle.krb_driver.specs.Messages.{file_message, numbered, pieces_text, said_text};
-ghost use Rattle.krb_driver.specs.RunErrors.{refused, said_of_file};
+ghost use Rattle.krb_driver.specs.RunErrors.{not_opened_said, refused, said_of_file};
 
 use crate::error::RunError;
+use crate::not_opened::OpenFault;
 use crate::reporting::lines::Line;
 use crate::reporting::piece::MessagePiece::{Name, Number, Text};
 use crate::reporting::piece::{COLON, END, HEAD, NONE};
@@ -51,6 +52,17 @@ impl Said {
         Said::numbered("refused ", code.number(), "")
     }
 
+    // Returns what is said of a file that did not open.
+    fn not_opened(fault: OpenFault) -> Said
+        ensures { said_text result ≡ not_opened_said fault }
+    {
+        let before = match fault {
+            OpenFault::Keytab(_) => "not a keytab (",
+            OpenFault::Cache(_) => "not a cache (",
+        };
+        Said::numbered(before, fault.number(), ")")
+    }
+
     /// Returns what the message for an error says after the name of a file; nothing if it names none.
     pub fn of(error: RunError) -> Said
         ensures { said_text result ≡ said_of_file error }
@@ -61,15 +73,7 @@ impl Said {
             RunError::FileTooLarge => Said::alone("file too large"),
             RunError::FileNotRead => Said::alone("cannot read"),
             RunError::FileNotWritten | RunError::TypedName => Said::alone("cannot write"),
-            RunError::NotAKeytab(why) | RunError::NotAKeytabToList(why) => {
-                Said::numbered("not a keytab (", why.fault.number(), ")")
-            }
-            RunError::NotACache(why)
-            | RunError::NotACacheToHold(why)
-            | RunError::NotACacheToMatch(why)
-            | RunError::NeitherToShow(why) => {
-                Said::numbered("not a cache (", why.fault.number(), ")")
-            }
+            RunError::NotOpened(why) => Said::not_opened(why.fault),
             RunError::Refused(_, code) => Said::refused(code),
             RunError::NothingToCopy | RunError::NoTicketIn(_) => Said::refused(Code::NotFound),
             _ => Said::alone(""),

@@ -2,12 +2,13 @@
 
 ghost use Rattle.std.specs.Prelude.{◌≡◌, option_map};
 ghost use Rattle.krb_driver.specs.Messages.{phrase_line, words_line, piece_text, pieces_text};
-ghost use Rattle.krb_driver.specs.EndingWords.{cache_phrase, cause_words, error_words, fault_with, hold_phrase, keytab_phrase, line_fault_phrase, list_phrase, listed_words, match_phrase, no_cache_phrase, no_keytab_phrase, no_ticket_phrase, nothing_phrase, refusal_phrase, replace_words, show_phrase, unknown_words, verdict_words, way_words};
+ghost use Rattle.krb_driver.specs.NotOpened.{begun_phrase, not_opened_phrase};
+ghost use Rattle.krb_driver.specs.EndingWords.{cache_phrase, cause_words, error_words, fault_with, keytab_phrase, line_fault_phrase, listed_words, no_ticket_phrase, nothing_phrase, refusal_phrase, replace_words, unknown_words, verdict_words, way_words};
 
 use crate::beginning::Beginning;
 use crate::error::RunError;
 use crate::first_word::FirstWord;
-use crate::loading::{NotCache, NotKeytab};
+use crate::not_opened::{Expected, NotOpened};
 use crate::reporting::details::Details;
 use crate::reporting::lines::{Line, nothing, phrase, words, words_before};
 use crate::reporting::name_words::{
@@ -16,9 +17,7 @@ use crate::reporting::name_words::{
 use crate::reporting::piece::MessagePiece::{Escaped, Name, Number, Text};
 use crate::reporting::piece::{COLON, END, HEAD, NONE};
 use crate::verdict::{FileKind, TicketsSought, Verdict};
-use krb_ccache::CcOpenFault;
 use krb_files::Cause;
-use krb_keytab::KtOpenFault;
 use krb_text::LineFault;
 use krb_walk::{Code, Fault};
 
@@ -72,76 +71,38 @@ fn nothing_phrase(kind: FileKind) -> &'static str
     }
 }
 
-// Returns why an image is not a keytab.
-fn no_keytab_phrase(why: NotKeytab) -> &'static str
-    ensures { result.now ≡ no_keytab_phrase why.fault why.begins }
+// Returns the phrase for a file that begins so, where it was to be opened as that; or another phrase.
+fn begun_phrase(begins: Beginning, expected: Expected, other: &'static str) -> &'static str
+    ensures { result.now ≡ begun_phrase begins expected other.now }
 {
-    match (why.fault, why.begins) {
-        (KtOpenFault::BadVersion, Beginning::Cache) => "it begins as a credential cache",
-        (KtOpenFault::BadVersion, other) => other.phrase_or(KtOpenFault::BadVersion.phrase()),
-        (fault, _) => fault.phrase(),
-    }
-}
-
-// Like `no_keytab_phrase`, for a file that is listed as a keytab.
-fn list_phrase(why: NotKeytab) -> &'static str
-    ensures { result.now ≡ list_phrase why.fault why.begins }
-{
-    match (why.fault, why.begins) {
-        (KtOpenFault::BadVersion, Beginning::Cache) => {
+    match (begins, expected) {
+        (Beginning::Cache, Expected::Keytab) => "it begins as a credential cache",
+        (Beginning::Cache, Expected::KeytabToList) => {
             "it begins as a credential cache; list it without -k"
         }
-        _ => no_keytab_phrase(why),
-    }
-}
-
-// Returns why an image is not a cache.
-fn no_cache_phrase(why: NotCache) -> &'static str
-    ensures { result.now ≡ no_cache_phrase why.fault why.begins }
-{
-    match (why.fault, why.begins) {
-        (CcOpenFault::BadVersion, Beginning::Keytab) => {
+        (Beginning::Keytab, Expected::Cache) => {
             "a keytab (list it with -k), or a cache of version 1 or 2 (not read)"
         }
-        (CcOpenFault::BadVersion, other) => other.phrase_or(CcOpenFault::BadVersion.phrase()),
-        (fault, _) => fault.phrase(),
-    }
-}
-
-// Returns why an image that does not begin as a keytab is no cache.
-fn show_phrase(why: NotCache) -> &'static str
-    ensures { result.now ≡ show_phrase why.fault why.begins }
-{
-    match why.fault {
-        CcOpenFault::BadVersion => why
-            .begins
-            .phrase_or("it does not begin as a keytab or a cache"),
-        fault => fault.phrase(),
-    }
-}
-
-// Like `no_cache_phrase`, for a file that is held as a cache.
-fn hold_phrase(why: NotCache) -> &'static str
-    ensures { result.now ≡ hold_phrase why.fault why.begins }
-{
-    match (why.fault, why.begins) {
-        (CcOpenFault::BadVersion, Beginning::Keytab) => {
+        (Beginning::Keytab, Expected::CacheToHold) => {
             "a keytab (hold it with -k), or a cache of version 1 or 2 (not read)"
         }
-        _ => no_cache_phrase(why),
+        (Beginning::Keytab, Expected::CacheToMatch) => {
+            "a keytab (KEYTAB comes first), or a cache of version 1 or 2 (not read)"
+        }
+        (begins, Expected::Either) => begins.phrase_or("it does not begin as a keytab or a cache"),
+        (begins, _) => begins.phrase_or(other),
     }
 }
 
-// Like `no_cache_phrase`, for a file whose tickets are matched.
-fn match_phrase(why: NotCache) -> &'static str
-    ensures { result.now ≡ match_phrase why.fault why.begins }
+// Returns why a file did not open.
+fn not_opened_phrase(why: NotOpened) -> &'static str
+    ensures { result.now ≡ not_opened_phrase why }
 {
-    match (why.fault, why.begins) {
-        (CcOpenFault::BadVersion, Beginning::Keytab) => {
-            "a keytab (KEYTAB comes first), or a cache of version 1 or 2 (not read)"
-        }
-        _ => no_cache_phrase(why),
+    let phrase = why.fault.phrase();
+    if why.fault.is_bad_version() {
+        return begun_phrase(why.begins, why.expected, phrase);
     }
+    phrase
 }
 
 // Returns why no ticket was looked at.
@@ -248,12 +209,7 @@ pub fn error_words<'a>(
         | RunError::FileNotRead
         | RunError::FileNotWritten
         | RunError::OutputNotWritten => cause_words(file, line, details),
-        RunError::NotAKeytab(why) => phrase(line, no_keytab_phrase(why)),
-        RunError::NotAKeytabToList(why) => phrase(line, list_phrase(why)),
-        RunError::NotACache(why) => phrase(line, no_cache_phrase(why)),
-        RunError::NotACacheToHold(why) => phrase(line, hold_phrase(why)),
-        RunError::NotACacheToMatch(why) => phrase(line, match_phrase(why)),
-        RunError::NeitherToShow(why) => phrase(line, show_phrase(why)),
+        RunError::NotOpened(why) => phrase(line, not_opened_phrase(why)),
         RunError::OutputIsTerminal => phrase(line, "the image is for a program; give it a pipe"),
         RunError::ClockNotRead => phrase(line, "the clock is before 1970 or after 2106, or failed"),
         RunError::NoMemory => nothing(),

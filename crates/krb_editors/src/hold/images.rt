@@ -8,7 +8,7 @@ ghost use Rattle.krb_editors.specs.Hold.{framed, fault_in, file_kind, given_by, 
 
 use crate::hold::frame::image_in;
 use crate::hold::words::HoldKind;
-use krb_driver::{RunError, cache_of, keytab_of};
+use krb_driver::{Expected, RunError, cache_of, keytab_of};
 use krb_walk::{Code, Fault};
 use krb_wire::USUAL_LIMIT;
 use std::alloc::Allocator;
@@ -24,15 +24,12 @@ fn opened<A: Allocator>(
 {
     match kind {
         HoldKind::Keytab(v1_order) => {
-            let keytab = keytab_of(v1_order, image)?;
+            let keytab = keytab_of(Expected::Keytab, v1_order, image)?;
             let fault = keytab.fault();
             Ok((keytab.into_image(), fault))
         }
         HoldKind::Cache => {
-            let cache = match cache_of(image) {
-                Ok(cache) => cache,
-                Err(why) => return Err(RunError::NotACacheToHold(why)),
-            };
+            let cache = cache_of(Expected::CacheToHold, image)?;
             let fault = cache.fault();
             Ok((cache.into_image(), fault))
         }

@@ -38,8 +38,7 @@ fn why_failed(error: RunError, cause: Option<Cause>) -> MessagePiece<'static>
     ensures { piece_text result ≡ why_failed error cause }
 {
     match error {
-        RunError::NotAKeytab(why) => Number(10 + u64::from(why.fault.number())),
-        RunError::NotACacheToHold(why) => Number(10 + u64::from(why.fault.number())),
+        RunError::NotOpened(why) => Number(10 + u64::from(why.fault.number())),
         RunError::Refused(_, code) => Number(30 + u64::from(code.number())),
         RunError::DamagedInput(_) => Number(30 + u64::from(Code::Damaged.number())),
         RunError::NoSuchFile(_) | RunError::OtherType(..) => Text("ENOENT"),

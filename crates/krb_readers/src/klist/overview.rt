@@ -12,8 +12,8 @@ use crate::klist::ticket_check::{SeenTickets, has_ticket};
 use crate::klist::words::{refuse_columns, refuse_odd_seconds, refuse_with};
 use krb_ccache::Ccache;
 use krb_driver::{
-    FileError, FileName, Made, MakeResult, Matches, Mistake, Output, OverFiles, RunEnd, RunError,
-    Verdict, World, append_name, end_before, open_cache, print, run_over, typed,
+    CacheUse, FileError, FileName, Made, MakeResult, Matches, Mistake, Output, OverFiles, RunEnd,
+    RunError, Verdict, World, append_name, end_before, open, print, run_over, typed,
 };
 use krb_files::Files;
 use krb_json::{CacheSummary, append_summary};
@@ -150,7 +150,7 @@ impl<A: Allocator + Copy> OverFiles<A> for SurveyFiles {
         file: FileName<'f>,
         files: &mut F,
     ) -> MakeResult<'f, A, Output<A>> {
-        let cache = open_cache(alloc, files, file)?;
+        let cache = open(alloc, CacheUse::Read, files, file)?;
         survey(alloc, *self, file.name, &cache)
     }
 

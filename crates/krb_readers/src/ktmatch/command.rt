@@ -14,8 +14,8 @@ use crate::ktmatch::verdict::{append_lines, judged_of};
 use crate::ktmatch::words::MatchOptions;
 use krb_ccache::Ccache;
 use krb_driver::{
-    FileError, FileName, Judged, Made, MakeResult, Output, OverFiles, RunEnd, RunError, Verdict,
-    label_of, try_matched,
+    CacheUse, FileError, FileName, Judged, Made, MakeResult, Output, OverFiles, RunEnd, RunError,
+    Verdict, label_of, try_open,
 };
 use krb_files::Files;
 use krb_match::{Matched, MatchedTicket, Matcher};
@@ -114,7 +114,7 @@ impl<'c, A: Allocator + Copy, B: Allocator> OverFiles<A> for MatchFiles<'c, '_, 
         files: &mut F,
     ) -> MakeResult<'f, A, FilePage<A, MatchObject<'c, A>>> {
         let options = self.options;
-        let cache = match try_matched(alloc, files, file) {
+        let cache = match try_open(alloc, CacheUse::Match, files, file) {
             Ok(cache) => cache,
             Err(why) => return refused(options.json, file, why),
         };

@@ -6,7 +6,7 @@ pub returns-in-Ok-check_hold : goal.returns-in-Ok-check_hold
 returns-in-Ok-check_hold g c = record {
   held = c.hold_if.new.files;
   holds = c.hold_if.ensures.held;
-  loaded = c.give_whole.new.files;
+  loaded = c.give.new.files;
   given = Ok c.in-Ok.loaded.items;
   gives = c.in-Ok.ensures;
   after = (c.check_hold.new.files, (Ok tt, (c.in-Ok-check_hold.ensures, rw c.deref.ensures.value at c.exchange.ensures)));
@@ -19,7 +19,7 @@ returns g c =
     record {
       held = c.hold_if.new.files;
       holds = c.hold_if.ensures.held;
-      loaded = c.give_whole.new.files;
+      loaded = c.give.new.files;
       given = Ok c.in-Ok.loaded.items;
       gives = c.in-Ok.ensures;
       after = (c.check_hold.new.files, (Err (met.file.now, met.error), (c.in-Err-check_hold.ensures, (refl, refl))));

@@ -10,8 +10,8 @@ use super::Ktutil;
 use crate::ktutil::line::Line;
 use krb_audit::hides_added;
 use krb_driver::{
-    FileKind, FileName, Made, NameSource, Output, RunError, Verdict, hold, load_keytab,
-    load_or_new, type_of,
+    FileKind, FileName, KeytabUse, Made, NameSource, Opener, Output, RunError, Verdict, hold,
+    type_of,
 };
 use krb_files::Files;
 use krb_keytab::{Indexed, Keytab, NewEntry};
@@ -121,9 +121,10 @@ impl<A: Allocator + Copy> Ktutil<A> {
                 RunError::OtherType(FileKind::Keytab, NameSource::Word),
             );
         }
-        match load_keytab(self.alloc, self.v1_order, files, file.name) {
+        let opener = KeytabUse::Read(self.v1_order);
+        match opener.load(self.alloc, false, files, file.name) {
             Ok(keytab) => self.take_entries(number, file.name, &keytab),
-            Err(why) => Line::fails(file.name, RunError::from(why)),
+            Err(why) => Line::fails(file.name, why),
         }
     }
 
@@ -132,9 +133,10 @@ impl<A: Allocator + Copy> Ktutil<A> {
         ensures { MakesLine F.Files (writing_plan self.now number name.now)
             files.old files.new self.now self.now (line_effect result) result.quits }
     {
-        match load_or_new(self.alloc, self.v1_order, false, files, name) {
+        let opener = KeytabUse::Edit(self.v1_order);
+        match opener.load(self.alloc, false, files, name) {
             Ok(keytab) => write_to(self.alloc, &self.entries, number, name, keytab),
-            Err(why) => Line::fails(name, RunError::from(why)),
+            Err(why) => Line::fails(name, why),
         }
     }
 

@@ -9,8 +9,8 @@ returns-in_err-cache g c =
     let file = c.args.self.now.file in
     let lines = c.args.self.now.lines.items in
     let met = c.in_err-cache.field-0.0 in
-    rw (p.1 ∙ ap Err p.2) (fairly-holds g.F.Files c.args.files.now c.hold_if.new.files c.give_cache.new.files (can_hold (list_any line_may_change lines) file) file.name.now (opens file cache_of (λ (k : CacheState). Ends (edits lines file.name.now k))) (fair_first cache_of (RunsFairly lines)) _ (rw (c.may_any_change.ensures, c.deref.ensures.value) at c.hold_if.ensures.held)
-    (fairly-failed g.F.Files c.hold_if.new.files file cache_of (λ (k : CacheState). Ends (edits lines file.name.now k)) (RunsFairly lines) met.file.now met.error c.give_cache.new.files c.in_err-cache.ensures))
+    rw (p.1 ∙ ap Err p.2) (fairly-holds g.F.Files c.args.files.now c.hold_if.new.files c.give.new.files (can_hold (list_any line_may_change lines) file) file.name.now (opens file cache_of (λ (k : CacheState). Ends (edits lines file.name.now k))) (fair_first cache_of (RunsFairly lines)) _ (rw (c.may_any_change.ensures, c.deref.ensures.value) at c.hold_if.ensures.held)
+    (fairly-failed g.F.Files c.hold_if.new.files file cache_of (λ (k : CacheState). Ends (edits lines file.name.now k)) (RunsFairly lines) met.file.now met.error c.give.new.files c.in_err-cache.ensures))
 
 -- memory ran out
 pub returns-in_err-edit : goal.returns-in_err-edit
@@ -19,13 +19,13 @@ returns-in_err-edit g c =
     let file = c.args.self.now.file in
     let lines = c.args.self.now.lines.items in
     let spent : IsSpent (Fails p.0.file.now p.0.error) = (p.0.file.now, ap (λ (t : RunError). Fails p.0.file.now t) p.2) in
-    rw p.1 (fairly-holds g.F.Files c.args.files.now c.hold_if.new.files c.give_cache.new.files (can_hold (list_any line_may_change lines) file) file.name.now (opens file cache_of (λ (k : CacheState). Ends (edits lines file.name.now k))) (fair_first cache_of (RunsFairly lines)) _ (rw (c.may_any_change.ensures, c.deref.ensures.value) at c.hold_if.ensures.held)
-    (makes-fairly g.F.Files c.hold_if.new.files file cache_of (λ (k : CacheState). edits lines file.name.now k) (RunsFairly lines) c.in_ok-cache.cache.state _ c.give_cache.new.files c.in_ok-cache.ensures (inl spent) (inl spent)))
+    rw p.1 (fairly-holds g.F.Files c.args.files.now c.hold_if.new.files c.give.new.files (can_hold (list_any line_may_change lines) file) file.name.now (opens file cache_of (λ (k : CacheState). Ends (edits lines file.name.now k))) (fair_first cache_of (RunsFairly lines)) _ (rw (c.may_any_change.ensures, c.deref.ensures.value) at c.hold_if.ensures.held)
+    (makes-fairly g.F.Files c.hold_if.new.files file cache_of (λ (k : CacheState). edits lines file.name.now k) (RunsFairly lines) c.in_ok-cache.cache.state _ c.give.new.files c.in_ok-cache.ensures (inl spent) (inl spent)))
 
 pub returns : goal.returns
 returns g c =
     let file = c.args.self.now.file in
     let lines = c.args.self.now.lines.items in
-    fairly-holds g.F.Files c.args.files.now c.hold_if.new.files c.give_cache.new.files (can_hold (list_any line_may_change lines) file) file.name.now (opens file cache_of (λ (k : CacheState). Ends (edits lines file.name.now k))) (fair_first cache_of (RunsFairly lines)) _ (rw (c.may_any_change.ensures, c.deref.ensures.value) at c.hold_if.ensures.held)
-    (makes-fairly g.F.Files c.hold_if.new.files file cache_of (λ (k : CacheState). edits lines file.name.now k) (RunsFairly lines) c.in_ok-cache.cache.state _ c.give_cache.new.files c.in_ok-cache.ensures
+    fairly-holds g.F.Files c.args.files.now c.hold_if.new.files c.give.new.files (can_hold (list_any line_may_change lines) file) file.name.now (opens file cache_of (λ (k : CacheState). Ends (edits lines file.name.now k))) (fair_first cache_of (RunsFairly lines)) _ (rw (c.may_any_change.ensures, c.deref.ensures.value) at c.hold_if.ensures.held)
+    (makes-fairly g.F.Files c.hold_if.new.files file cache_of (λ (k : CacheState). edits lines file.name.now k) (RunsFairly lines) c.in_ok-cache.cache.state _ c.give.new.files c.in_ok-cache.ensures
     (inr ((rw c.deref-2.ensures.value at c.in_ok-edit.ensures.made) file.name.now)) (inr (rw c.deref-2.ensures.value at c.in_ok-edit.ensures.fair)))

@@ -9,8 +9,8 @@ returns-in-Err g c =
     let s = a.self.now in
     let o = s.options.now in
     tried g.F.Files a.files.now a.file (keytab_in o.v1_order) (Err c.in-Err.why) o.json
-    (λ k. page_of o s.are_several a.explained a.file.name.now (found o s.aged_by (g.F.Files.mode c.try_keytab.new.files) k)) _
-    c.try_keytab.new.files (rw (c.in-Err.is, ap (λ (x : KeytabCheck). x.v1_order) c.options.view_is) at c.try_keytab.ensures) (inr (rw (ap (λ (x : KeytabCheck). x.json) c.options.view_is) at c.refused.ensures))
+    (λ k. page_of o s.are_several a.explained a.file.name.now (found o s.aged_by (g.F.Files.mode c.try_open.new.files) k)) _
+    c.try_open.new.files (rw (c.in-Err.is, ap (λ (x : KeytabCheck). x.v1_order) c.options.view_is) at c.try_open.ensures) (inr (rw (ap (λ (x : KeytabCheck). x.json) c.options.view_is) at c.refused.ensures))
 
 pub returns : goal.returns
 returns g c =
@@ -18,5 +18,5 @@ returns g c =
     let s = a.self.now in
     let o = s.options.now in
     tried g.F.Files a.files.now a.file (keytab_in o.v1_order) (Ok c.in-Ok.keytab.state) o.json
-    (λ k. page_of o s.are_several a.explained a.file.name.now (found o s.aged_by (g.F.Files.mode c.try_keytab.new.files) k)) _
-    c.try_keytab.new.files (rw (c.in-Ok.is, ap (λ (x : KeytabCheck). x.v1_order) c.options.view_is) at c.try_keytab.ensures) (rw c.mode.ensures at c.shown.ensures)
+    (λ k. page_of o s.are_several a.explained a.file.name.now (found o s.aged_by (g.F.Files.mode c.try_open.new.files) k)) _
+    c.try_open.new.files (rw (c.in-Ok.is, ap (λ (x : KeytabCheck). x.v1_order) c.options.view_is) at c.try_open.ensures) (rw c.mode.ensures at c.shown.ensures)

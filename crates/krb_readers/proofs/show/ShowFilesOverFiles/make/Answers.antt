@@ -15,6 +15,6 @@ returns-in_err-of g c =
 pub returns : goal.returns
 unfolding always
 returns g c = record {
-  makes = c.in_ok-of.ensures (λ k. Ends (shows c.args.self.now.now c.args.is_after c.args.file.name.now k)) _ _ (makes-end g.F.Files c.open_either.new.files _ _ c.shown.ensures);
+  makes = c.in_ok-of.ensures (λ k. Ends (shows c.args.self.now.now c.args.is_after c.args.file.name.now k)) _ _ (makes-end g.F.Files c.open.new.files _ _ c.shown.ensures);
   fair = inr tt;
 }
