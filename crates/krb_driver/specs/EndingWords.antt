@@ -1,8 +1,7 @@
 -- The words that explain how a run ended: what follows its message where words are shown.
 use Rattle.std.specs.Prelude.{ℕ, List, [], ◌++◌, Bool, true, false, nat_eq, if◌then◌else◌, Option, None, Some, is_some, option_map, unwrap_or, Ok, Err, codes, decimal, unsigned_abs}
-use Rattle.krb_walk.specs.declared.refusal.Code.TheVariants.{Damaged, Full, NotAPlace, NotLive, ReadOnly}
 use Rattle.std.specs.List.{flat_map, starts_with}
-use Rattle.krb_walk.specs.Phrases.{code_number, fault_number, code_phrase, fault_phrase}
+use Rattle.krb_walk.specs.Phrases.{code_number, fault_number, fault_phrase}
 use Rattle.krb_files.specs.declared.cause.Cause.{Cause}
 use Rattle.krb_files.specs.declared.cause.Cause.TheVariants.{InTheWay, System}
 use Rattle.krb_files.specs.Phrases.{cause_phrase}
@@ -13,67 +12,27 @@ use Rattle.krb_findings.specs.Table.{all_findings, findings_about_tickets, has, 
 use Rattle.krb_findings.specs.declared.finding.Finding.{Finding}
 use Rattle.krb_findings.specs.declared.finding_set.FindingSet.{FindingSet}
 use Rattle.krb_driver.specs.declared.file_name.NameSource.TheVariants.{Word, LikePrincipal, CacheVariable, KeytabVariable, Default}
-use Rattle.krb_driver.specs.declared.error.RunError.TheVariants as error
 use Rattle.krb_driver.specs.declared.verdict.FileKind.{FileKind}
 use Rattle.krb_driver.specs.declared.verdict.FileKind.TheVariants.{Keytab}
 use Rattle.krb_driver.specs.declared.reporting.details.Details.{Details}
 use Rattle.krb_driver.specs.declared.reporting.reported.Failure.{Failure}
 use Rattle.krb_driver.specs.declared.reporting.reported.Failure.TheVariants.{Refused, Faulted}
 use Rattle.krb_driver.specs.declared.reporting.reported.Reported.{Reported}
+use Rattle.krb_driver.specs.declared.reporting.row.Explains.{Explains}
+use Rattle.krb_driver.specs.declared.reporting.row.Explains.TheVariants as by
 use Rattle.krb_driver.specs.declared.verdict.Findings.{Findings}
-use Rattle.krb_driver.specs.declared.verdict.TicketsSought.{TicketsSought}
-use Rattle.krb_driver.specs.declared.verdict.TicketsSought.TheVariants.{Asked, OfServices}
 use Rattle.krb_driver.specs.declared.verdict.Verdict.TheVariants.{HiddenFrom, NoEntry, Listed, Replied, Found, Judged, NothingToRemove, Clashed}
-use Rattle.krb_driver.specs.NotOpened.{not_opened_phrase}
+use Rattle.krb_driver.specs.ErrorRows.{error_row, nothing_phrase, refusal_phrase}
 use Rattle.krb_driver.specs.FileNames.{shown_name, type_of, untyped}
 use Rattle.krb_driver.specs.FirstWords.{word_text}
 use Rattle.krb_driver.specs.Hints.{hint_words}
-use Rattle.krb_driver.specs.Messages.{line_if, numbered_line, words_line, phrase_line}
+use Rattle.krb_driver.specs.Messages.{file_message, line_if, numbered, numbered_line, words_line, phrase_line}
 use Rattle.krb_driver.specs.RunErrors.{Code, Fault, LineFault, RunError, NameSource, Verdict, FirstWord, Ending}
-
--- ---- phrases
-
--- a file or an input that is too large
-abbrev pub too_large : List ℕ
-too_large = codes "it has more than 16,777,216 bytes"
-
--- the phrase for a refusal by a keytab
-abbrev pub keytab_phrase : Code → List ℕ
-keytab_phrase Damaged = codes "the file is damaged; klist -k tells where"
-keytab_phrase Full = codes "the file would be longer than 16,777,216 bytes"
-keytab_phrase NotAPlace = codes "no record, hole or end stands at this place"
-keytab_phrase NotLive = codes "no entry stands at this place"
-keytab_phrase code = code_phrase code
-
--- the phrase for a refusal by a cache
-abbrev pub cache_phrase : Code → List ℕ
-cache_phrase NotAPlace = codes "no credential or end stands at this place"
-cache_phrase NotLive = codes "no ticket or configuration entry stands at this place"
-cache_phrase Damaged = code_phrase Damaged
-cache_phrase ReadOnly = codes "version 3 changes by a rewrite: echo rewrite | krbfile ccedit FILE"
-cache_phrase code = keytab_phrase code
-
--- the phrase for a refusal by a keytab or a cache
-abbrev pub refusal_phrase : FileKind → Code → List ℕ
-refusal_phrase Keytab code = keytab_phrase code
-refusal_phrase kind code = cache_phrase code
-
--- why nothing was removed from a file
-abbrev pub nothing_phrase : FileKind → List ℕ
-nothing_phrase Keytab = codes "no entry has what was asked for"
-nothing_phrase kind = codes "no ticket has what was asked for"
-
--- why no ticket was looked at
-abbrev pub no_ticket_phrase : TicketsSought → List ℕ
-no_ticket_phrase Asked = codes "no ticket has what was asked for"
-no_ticket_phrase OfServices = codes "no ticket of a service"
 
 -- what is wrong with a line of a script, or of ktutil if a line number is given
 abbrev pub line_fault_phrase : Option ℕ → LineFault → List ℕ
 line_fault_phrase None fault = line_phrase fault
 line_fault_phrase (Some line) fault = ktutil_phrase fault
-
--- ---- words
 
 -- the words that say where a file's name comes from, if no word of a line gave it; or how a principal is named
 abbrev pub source_words : NameSource → List ℕ
@@ -92,23 +51,25 @@ missing_words (Some line) source = phrase_line (Some line) (codes "no such file"
 abbrev pub type_in : List ℕ → List ℕ
 type_in name = unwrap_or (type_of name) []
 
--- the words for a name of a type that is not read
-abbrev pub type_words : Option ℕ → List ℕ → List ℕ
-type_words line name = words_line line (codes "only files are read, and this is " ++ (shown_name (type_in name) ++ codes "\n"))
+-- the words for a name of a type that is not read, and where the name comes from
+abbrev pub type_words : Option ℕ → List ℕ → NameSource → List ℕ
+type_words line name source = words_line line (codes "only files are read, and this is " ++ (shown_name (type_in name) ++ (codes "\n" ++ source_words source)))
 
 -- a name is that of a collection of caches
 abbrev pub is_collection : FileKind → List ℕ → Bool
 is_collection Keytab name = false
 is_collection kind name = starts_with nat_eq name (codes "DIR:")
 
--- the words for a name of a type that is not read, of a file that is to be of that kind
-abbrev pub other_type_words : Option ℕ → FileKind → List ℕ → List ℕ
-other_type_words line kind name = if is_collection kind name then phrase_line line (codes "a collection; give one of its caches, DIR::FILE") else type_words line name
+-- the words for a name of a type that is not read, of a file that is to be of that kind, and where the name comes from
+abbrev pub other_type_words : Option ℕ → FileKind → List ℕ → NameSource → List ℕ
+other_type_words line kind name source =
+    if is_collection kind name then words_line line (codes "a collection; give one of its caches, DIR::FILE\n" ++ source_words source)
+    else type_words line name source
 
 -- the words for a name that begins with a type where a file is to be written
 abbrev pub typed_words : Option ℕ → List ℕ → List ℕ
 typed_words line name =
-    if is_some (untyped Keytab name) then words_line line (codes "leave out " ++ (shown_name (type_in name) ++ codes "\n")) else type_words line name
+    if is_some (untyped Keytab name) then words_line line (codes "leave out " ++ (shown_name (type_in name) ++ codes "\n")) else type_words line name Word
 
 -- the words for what keeps a save from making its new file, by its path if that is known
 abbrev pub way_words : List ℕ → Option ℕ → Option (List ℕ) → List ℕ
@@ -141,8 +102,8 @@ failure_words kind (Some (Faulted fault)) = numbered_line (codes "krbfile: fault
 
 -- the words for an entry that was added and that MIT's programs do not see, as they see none from a place on
 abbrev pub hidden_words : List ℕ → Option ℕ → ℕ → List ℕ
-hidden_words file None place = codes "krbfile: " ++ (shown_name file ++ (codes ": MIT's programs see no entry from " ++ (decimal place ++ codes " on\n")))
-hidden_words file (Some line) place = codes "krbfile: line " ++ (decimal line ++ (codes ": MIT's programs see no entry from " ++ (decimal place ++ codes " on\n")))
+hidden_words file None place = file_message file (numbered (codes "MIT's programs see no entry from ") place (codes " on"))
+hidden_words file line place = phrase_line line (numbered (codes "MIT's programs see no entry from ") place (codes " on"))
 
 -- the words for an added entry that MIT's programs do not see, if there is one
 abbrev pub hidden_words_of : List ℕ → Option ℕ → List ℕ
@@ -171,45 +132,33 @@ found_words file findings = flat_map (word_line findings.words) all_findings ++ 
 abbrev pub unknown_words : FirstWord → List ℕ
 unknown_words word = codes "krbfile: " ++ (line_phrase UnknownWord ++ (codes ": \"" ++ (escaped_text (word_text word) ++ codes "\"\n")))
 
+-- the words that explain an error of a run over a file, or of a line of ktutil, by what explains it and its phrase
+abbrev pub words_by : List ℕ → Option ℕ → Details → List ℕ → Explains → List ℕ
+words_by file line details phrase by.Nothing = []
+words_by file line details phrase by.Phrase = phrase_line line phrase
+words_by file line details phrase (by.Line fault) = phrase_line line (line_fault_phrase line fault)
+words_by file line details phrase by.Cause = cause_words file line details
+words_by file line details phrase (by.Missing source) = missing_words line source
+words_by file line details phrase (by.Type kind source) = other_type_words line kind file source
+words_by file line details phrase by.TypedName = typed_words line file
+words_by file line details phrase (by.FirstWord word) = unknown_words word
+words_by file line details phrase (by.Input fault) = fault_with file fault (codes "what was given is damaged")
+
 -- the words that explain an error of a run over that file, or of that line of ktutil
 abbrev pub error_words : List ℕ → Option ℕ → Details → RunError → List ℕ
-error_words file line details error.InputTooLarge = phrase_line line too_large
-error_words file line details error.InputNotRead = cause_words file line details
-error_words file line details error.InputNotWhole = phrase_line line (codes "it is not a length, a newline and just as many bytes")
-error_words file line details (error.DamagedInput fault) = fault_with file fault (codes "what was given is damaged")
-error_words file line details (error.FaultyLine number fault) = phrase_line line (line_fault_phrase line fault)
-error_words file line details (error.UnknownWord number word) = unknown_words word
-error_words file line details (error.FromPassword number) = phrase_line line (codes "keys are not made from passwords here")
-error_words file line details (error.AsksForHelp number) = phrase_line line (codes "see krbfile ktutil --help")
-error_words file line details (error.LineRefused number code) = phrase_line line (keytab_phrase code)
-error_words file line details (error.NoSuchFile source) = missing_words line source
-error_words file line details (error.OtherType kind source) = other_type_words line kind file ++ source_words source
-error_words file line details error.TypedName = typed_words line file
-error_words file line details error.FileTooLarge = phrase_line line too_large
-error_words file line details error.FileNotRead = cause_words file line details
-error_words file line details error.FileNotWritten = cause_words file line details
-error_words file line details (error.NotOpened why) = phrase_line line (not_opened_phrase why)
-error_words file line details (error.Refused kind code) = phrase_line line (refusal_phrase kind code)
-error_words file line details error.NothingToCopy = phrase_line line (nothing_phrase Keytab)
-error_words file line details (error.NothingSelected kind) = phrase_line line (nothing_phrase kind)
-error_words file line details (error.NoTicketIn sought) = phrase_line line (no_ticket_phrase sought)
-error_words file line details (error.NoTickets sought) = phrase_line line (no_ticket_phrase sought)
-error_words file line details error.OutputNotWritten = cause_words file line details
-error_words file line details error.OutputIsTerminal = phrase_line line (codes "the image is for a program; give it a pipe")
-error_words file line details error.ClockNotRead = phrase_line line (codes "the clock is before 1970 or after 2106, or failed")
-error_words file line details error.NoMemory = []
+error_words file line details error = words_by file line details (error_row error).phrase (error_row error).explains
 
--- the words for who did not give `--replace`
-abbrev pub replace_words : Bool → List ℕ
-replace_words true = []
-replace_words false = codes "krbfile: --replace takes FROM's key\n"
+-- the words for a clash, and for who did not give `--replace`
+abbrev pub clash_words : Option ℕ → Bool → List ℕ
+clash_words line replaces =
+    words_line line (codes "clash: TO has another key for this name, version and type\n" ++ (if replaces then [] else codes "krbfile: --replace takes FROM's key\n"))
 
 -- the words that explain the verdict of a run over that file, but for what replies or findings have
 abbrev pub verdict_words : List ℕ → Option ℕ → Verdict → List ℕ
 verdict_words file line (HiddenFrom place) = hidden_words file line place
 verdict_words file line (NothingToRemove kind) = phrase_line line (nothing_phrase kind)
 verdict_words file line NoEntry = words_line line (shown_name file ++ codes " has no entry\n")
-verdict_words file line (Clashed replaces) = phrase_line line (codes "clash: TO has another key for this name, version and type") ++ replace_words replaces
+verdict_words file line (Clashed replaces) = clash_words line replaces
 verdict_words file line (Listed fault) = listed_words file fault
 verdict_words file line verdict = []
 

@@ -4,6 +4,7 @@ pub mod Messages
 pub mod FirstWords
 pub mod Beginnings
 pub mod NotOpened
+pub mod ErrorRows
 pub mod RunErrors
 pub mod Reported
 pub mod Hints

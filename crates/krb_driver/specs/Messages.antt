@@ -3,11 +3,9 @@ use Rattle.std.specs.Prelude.{ℕ, List, [], ◌++◌, codes, decimal, Bool, if�
 use Rattle.krb_driver.specs.FileNames.{shown_name, name_byte}
 use Rattle.std.specs.Char.{is_ascii_hexdigit}
 use Rattle.std.specs.List.{flat_map, list_all}
-use Rattle.std.specs.Option.{option_map_or}
 use Rattle.hex.specs.Hex.{encode_lower}
 use Rattle.krb_text.specs.Escape.{is_printable, escaped, escaped_text}
 use Rattle.krb_driver.specs.FirstWords.{word_text}
-use Rattle.krb_driver.specs.declared.reporting.said.Said.{Said}
 use Rattle.krb_driver.specs.declared.reporting.writing.Form.{Form}
 use Rattle.krb_driver.specs.declared.reporting.writing.Form.TheVariants as form
 use Rattle.krb_driver.specs.declared.reporting.piece.MessagePiece.{MessagePiece}
@@ -24,14 +22,6 @@ file_message file what = codes "krbfile: " ++ (shown_name file ++ (codes ": " ++
 -- a number between two texts
 abbrev pub numbered : List ℕ → ℕ → List ℕ → List ℕ
 numbered before number after = before ++ (decimal number ++ after)
-
--- what is said: a text, or two with a number between them
-abbrev pub said_text : Said → List ℕ
-said_text said = said.before.now ++ (option_map_or decimal said.number [] ++ said.after.now)
-
--- a message about a line of the input, with the number of a fault at its end
-abbrev pub line_message : ℕ → List ℕ → ℕ → List ℕ
-line_message line what number = codes "krbfile: line " ++ (decimal line ++ (codes ": " ++ (what ++ (decimal number ++ codes "\n"))))
 
 -- a number between a text and its phrase
 abbrev pub numbered_line : List ℕ → ℕ → List ℕ → List ℕ

@@ -2,14 +2,13 @@
 use Rattle.std.specs.Prelude.{ℕ, List, [], if◌then◌else◌, Option, None, Some, codes, max, Bool, true, false, Result, Ok, Err}
 pub use Rattle.krb_walk.specs.declared.fault.Fault.{Fault}
 pub use Rattle.krb_walk.specs.declared.refusal.Code.{Code}
-use Rattle.krb_walk.specs.declared.refusal.Code.TheVariants.{NotFound, Damaged}
-use Rattle.krb_walk.specs.Phrases.{code_number}
+use Rattle.krb_walk.specs.declared.refusal.Code.TheVariants.{NotFound}
 pub use Rattle.krb_driver.specs.declared.verdict.Verdict.{Verdict}
 use Rattle.krb_driver.specs.declared.verdict.Verdict.TheVariants.{Well, HiddenFrom, NoEntry, Without, Listed, Replied, Found, Judged, NothingToRemove}
-use Rattle.krb_driver.specs.Messages.{numbered, message, file_message, line_message}
-use Rattle.krb_driver.specs.declared.not_opened.OpenFault.{OpenFault}
-use Rattle.krb_driver.specs.declared.not_opened.OpenFault.TheVariants as fault
-use Rattle.krb_driver.specs.NotOpened.{opening_number}
+use Rattle.krb_driver.specs.Messages.{file_message, message, phrase_line}
+use Rattle.krb_driver.specs.ErrorRows.{Refused, Says, error_row, said_text}
+use Rattle.krb_driver.specs.declared.reporting.row.Subject.{Subject}
+use Rattle.krb_driver.specs.declared.reporting.row.Subject.TheVariants.{Run, File, Line}
 pub use Rattle.krb_files.specs.declared.aftermath.Aftermath.{Aftermath}
 use Rattle.krb_files.specs.declared.aftermath.Aftermath.TheVariants.{LostChange, Mixed}
 pub use Rattle.krb_files.specs.declared.files.LoadFault.{LoadFault}
@@ -21,8 +20,7 @@ use Rattle.krb_files.specs.declared.output.OutFault.TheVariants as out
 use Rattle.krb_text.specs.declared.line_fault.ScriptRefusal.{ScriptRefusal}
 use Rattle.krb_text.specs.declared.line_fault.ScriptRefusal.TheVariants as refusal
 pub use Rattle.krb_text.specs.declared.line_fault.LineFault.{LineFault}
-use Rattle.krb_text.specs.declared.line_fault.LineFault.TheVariants.{UnknownWord, WordCount}
-use Rattle.krb_text.specs.LineFault.{line_fault_number}
+use Rattle.krb_text.specs.declared.line_fault.LineFault.TheVariants.{UnknownWord}
 pub use Rattle.krb_driver.specs.declared.file_name.NameSource.{NameSource}
 pub use Rattle.krb_driver.specs.declared.first_word.FirstWord.{FirstWord}
 use Rattle.krb_driver.specs.declared.file_name.NameSource.TheVariants.{Word}
@@ -41,13 +39,9 @@ hiding (Some place) Well = HiddenFrom place
 hiding place (Replied reported) = Replied (record reported { hidden_from = place })
 hiding place verdict = verdict
 
--- what messages say of a refusal: `refused ` and its number
-abbrev pub refused : Code → List ℕ
-refused code = numbered (codes "refused ") (code_number code) []
-
 -- the message for a run that ended with a verdict: none, but where nothing was found to remove
 abbrev pub verdict_message : List ℕ → Verdict → List ℕ
-verdict_message file (NothingToRemove kind) = file_message file (refused NotFound)
+verdict_message file (NothingToRemove kind) = file_message file (said_text (Refused NotFound))
 verdict_message file verdict = []
 
 -- the exit status by the verdict of a run
@@ -107,55 +101,28 @@ output_error out.NoMemory = error.NoMemory
 
 -- ---- what is said of it
 
--- what messages say of a file that did not open
-abbrev pub not_opened_said : OpenFault → List ℕ
-not_opened_said (fault.Keytab why) = numbered (codes "not a keytab (") (opening_number (fault.Keytab why)) (codes ")")
-not_opened_said (fault.Cache why) = numbered (codes "not a cache (") (opening_number (fault.Cache why)) (codes ")")
+-- a message about the run, a file, or a line of the input
+abbrev pub message_about : Subject → List ℕ → List ℕ → List ℕ
+message_about Run file what = message what
+message_about File file what = file_message file what
+message_about (Line line) file what = phrase_line (Some line) what
+
+-- what a message says after the name of a file, if it is about one
+abbrev pub said_after : Subject → Says → List ℕ
+said_after File says = said_text says
+said_after subject says = []
 
 -- what a message says of an error after the name of the file
 abbrev pub said_of_file : RunError → List ℕ
-said_of_file (error.DamagedInput fault) = refused Damaged
-said_of_file (error.NoSuchFile source) = codes "no such file"
-said_of_file (error.OtherType kind source) = codes "no such file"
-said_of_file error.TypedName = codes "cannot write"
-said_of_file error.FileTooLarge = codes "file too large"
-said_of_file error.FileNotRead = codes "cannot read"
-said_of_file error.FileNotWritten = codes "cannot write"
-said_of_file (error.NotOpened why) = not_opened_said why.fault
-said_of_file (error.Refused kind code) = refused code
-said_of_file error.NothingToCopy = refused NotFound
-said_of_file (error.NoTicketIn sought) = refused NotFound
-said_of_file other = []
+said_of_file error = said_after (error_row error).subject (error_row error).says
 
 -- the message for an error of a run over a file
 abbrev pub error_message : List ℕ → RunError → List ℕ
-error_message file error.InputTooLarge = message (codes "input too large")
-error_message file error.InputNotRead = message (codes "cannot read input")
-error_message file error.InputNotWhole = message (codes "input is not whole")
-error_message file (error.FaultyLine line fault) = line_message line (codes "fault ") (line_fault_number fault)
-error_message file (error.UnknownWord line word) = line_message line (codes "fault ") (line_fault_number UnknownWord)
-error_message file (error.FromPassword line) = line_message line (codes "fault ") (line_fault_number WordCount)
-error_message file (error.AsksForHelp line) = line_message line (codes "fault ") (line_fault_number UnknownWord)
-error_message file (error.LineRefused line code) = line_message line (codes "refused ") (code_number code)
-error_message file (error.NothingSelected kind) = message (codes "refused 9")
-error_message file (error.NoTickets sought) = message (codes "refused 9")
-error_message file error.OutputNotWritten = message (codes "cannot write output")
-error_message file error.OutputIsTerminal = message (codes "cannot write output")
-error_message file error.ClockNotRead = message (codes "cannot read the clock")
-error_message file error.NoMemory = message (codes "out of memory")
-error_message file other = file_message file (said_of_file other)
+error_message file error = message_about (error_row error).subject file (said_text (error_row error).says)
 
 -- the exit status by the error that ended a run
 abbrev pub error_status : RunError → ℕ
-error_status error.NoMemory = 4
-error_status error.InputNotRead = 3
-error_status error.FileNotRead = 3
-error_status error.FileNotWritten = 3
-error_status error.TypedName = 3
-error_status error.OutputNotWritten = 3
-error_status error.OutputIsTerminal = 3
-error_status error.ClockNotRead = 3
-error_status other = 1
+error_status error = (error_row error).status
 
 -- ---- how a run ends
 

@@ -66,17 +66,7 @@ impl RunError {
     pub fn status(self) -> u8
         ensures { result ≡ error_status self }
     {
-        match self {
-            RunError::NoMemory => 4,
-            RunError::InputNotRead
-            | RunError::FileNotRead
-            | RunError::FileNotWritten
-            | RunError::TypedName
-            | RunError::OutputNotWritten
-            | RunError::OutputIsTerminal
-            | RunError::ClockNotRead => 3,
-            _ => 1,
-        }
+        self.row().status
     }
 
     /// Returns the error for a file whose name comes from there.

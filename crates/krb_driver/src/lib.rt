@@ -35,8 +35,8 @@ pub use opening::{hold, hold_if, other_type, release};
 pub use reporting::details::{Details, details_of};
 pub use reporting::reported::replied_verdict;
 pub use reporting::{
-    ErrorOutput, MessagePiece, append_said, name_near, report, report_word_fault, show,
-    write_pieces,
+    ErrorOutput, ErrorRow, MessagePiece, Said, append_said, name_near, report, report_word_fault,
+    show, write_pieces,
 };
 pub use several::{OverFiles, Ran, label_of, run_over};
 pub use verdict::{FileKind, Findings, Judged, TicketsSought, Verdict};

@@ -11,6 +11,7 @@ mod near_words;
 mod operand;
 mod piece;
 pub(crate) mod reported;
+mod row;
 mod said;
 mod words;
 mod writing;
@@ -21,20 +22,21 @@ ghost use Rattle.krb_driver.specs.Runs.{Writes, Shows, Reports, aftermath_text, 
 ghost use Rattle.krb_driver.specs.RunErrors.{ending_message, error_message, verdict_message};
 
 use crate::error::{RunError, end_status};
-use crate::reporting::details::Details;
+use crate::reporting::details::{About, Details};
 use crate::reporting::ending_words::add_ending_words;
-use crate::reporting::lines::{Line, aftermath_line, is_message, line_message, message, nothing};
-use crate::reporting::said::{Said, said_message};
-use crate::reporting::writing::{Gathered, add_pieces, send};
+use crate::reporting::lines::{Line, aftermath_line, is_message, nothing};
+use crate::reporting::row::Subject;
+use crate::reporting::said::message;
+use crate::reporting::writing::{Gathered, add_line, send};
 use crate::verdict::Verdict;
 use arrayvec::ArrayVec;
-use krb_files::{Aftermath, Watched, put};
-use krb_text::LineFault;
+use krb_files::{Watched, put};
 use krb_walk::Code;
 pub use mistake_words::report_word_fault;
 pub use near_words::name_near;
 pub use piece::MessagePiece;
-pub use said::append_said;
+pub use row::ErrorRow;
+pub use said::{Said, append_said};
 use std::io::Write;
 use std::marker::Model;
 pub use writing::write_pieces;
@@ -68,41 +70,25 @@ pub fn show<W: Write>(
 
 // Returns the message for an error that ended a run.
 fn error_message(error: RunError, file: &[u8]) -> Line<'_>
-    ensures { pieces_text result ≡ error_message file.now error }
+    ensures { pieces_text result.items ≡ error_message file.now error }
 {
-    match error {
-        RunError::InputTooLarge => message("input too large"),
-        RunError::InputNotRead => message("cannot read input"),
-        RunError::InputNotWhole => message("input is not whole"),
-        RunError::FaultyLine { line, fault } => line_message(line, "fault ", fault.number()),
-        RunError::FromPassword { line } => {
-            line_message(line, "fault ", LineFault::WordCount.number())
-        }
-        RunError::UnknownWord { line, .. } | RunError::AsksForHelp { line } => {
-            line_message(line, "fault ", LineFault::UnknownWord.number())
-        }
-        RunError::LineRefused { line, code } => line_message(line, "refused ", code.number()),
-        RunError::NothingSelected(_) | RunError::NoTickets(_) => message("refused 9"),
-        RunError::OutputNotWritten | RunError::OutputIsTerminal => message("cannot write output"),
-        RunError::ClockNotRead => message("cannot read the clock"),
-        RunError::NoMemory => message("out of memory"),
-        error => said_message(file, Said::of(error)),
-    }
+    let row = error.row();
+    message(row.subject, file, row.said)
 }
 
 // Returns the message of a run that did its work.
 fn verdict_message(verdict: Verdict, file: &[u8]) -> Line<'_>
-    ensures { pieces_text result ≡ verdict_message file.now verdict }
+    ensures { pieces_text result.items ≡ verdict_message file.now verdict }
 {
     match verdict {
-        Verdict::NothingToRemove(_) => said_message(file, Said::refused(Code::NotFound)),
+        Verdict::NothingToRemove(_) => message(Subject::File, file, Said::Refused(Code::NotFound)),
         _ => nothing(),
     }
 }
 
 // Returns the message for the end of a run.
 fn ending_message(ending: Result<Verdict, RunError>, file: &[u8]) -> Line<'_>
-    ensures { pieces_text result ≡ ending_message file.now ending }
+    ensures { pieces_text result.items ≡ ending_message file.now ending }
 {
     match ending {
         Ok(verdict) => verdict_message(verdict, file),
@@ -113,19 +99,22 @@ fn ending_message(ending: Result<Verdict, RunError>, file: &[u8]) -> Line<'_>
 // Adds what a save left behind, if there is that, and it is a message or words are shown.
 fn add_aftermath<E: Write>(
     explains: bool,
-    aftermath: Option<Aftermath>,
-    file: &[u8],
-    line: Option<u64>,
+    about: About<'_>,
     gathered: &mut Gathered,
     err: &mut Watched<E>,
 )
-    ensures { Adds err.old gathered.old.items err.new gathered.new.items (aftermath_text explains file.now line aftermath) }
+    ensures { Adds err.old gathered.old.items err.new gathered.new.items
+        (aftermath_text explains about.entry.file.now about.entry.line about.entry.details.aftermath) }
 {
-    let Some(aftermath) = aftermath else {
+    let Some(aftermath) = about.details.aftermath else {
         return;
     };
     if explains || is_message(aftermath) {
-        add_pieces(&aftermath_line(aftermath, file, line), gathered, err);
+        add_line(
+            &aftermath_line(aftermath, about.file, about.line),
+            gathered,
+            err,
+        );
     }
 }
 
@@ -133,19 +122,17 @@ fn add_aftermath<E: Write>(
 fn write_ending<E: Write>(
     explains: bool,
     ending: Result<Verdict, RunError>,
-    file: &[u8],
-    line: Option<u64>,
-    details: Details<'_>,
+    about: About<'_>,
     err: &mut Watched<E>,
 )
-    ensures { Writes err.old err.new (ending_text explains file.now line details.entry ending) }
+    ensures { Writes err.old err.new (ending_text explains about.entry.file.now about.entry.line about.entry.details ending) }
 {
     let mut gathered = ArrayVec::new();
-    add_pieces(&ending_message(ending, file), &mut gathered, err);
+    add_line(&ending_message(ending, about.file), &mut gathered, err);
     if explains {
-        add_ending_words(ending, file, line, details, &mut gathered, err);
+        add_ending_words(ending, about, &mut gathered, err);
     }
-    add_aftermath(explains, details.aftermath, file, line, &mut gathered, err);
+    add_aftermath(explains, about, &mut gathered, err);
     send(&gathered, err);
 }
 
@@ -160,6 +147,11 @@ pub fn report<E: Write>(
 ) -> u8
     ensures { Reports file.now line details.entry ending err.old err.new result }
 {
-    write_ending(err.explains, ending, file, line, details, &mut err.to);
+    let about = About {
+        file,
+        line,
+        details,
+    };
+    write_ending(err.explains, ending, about, &mut err.to);
     end_status(ending, details.aftermath)
 }

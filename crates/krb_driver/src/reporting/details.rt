@@ -18,6 +18,14 @@ pub struct Details<'a> {
     pub aftermath: Option<Aftermath>,
 }
 
+/// What the report of an end is about: a file, or a line of ktutil, and what calls reported.
+#[derive(Clone, Copy)]
+pub struct About<'a> {
+    pub file: &'a [u8],
+    pub line: Option<u64>,
+    pub details: Details<'a>,
+}
+
 impl<'a> Details<'a> {
     /// Returns the details of calls without a save.
     pub fn unsaved(cause: Option<Cause>) -> Details<'a>

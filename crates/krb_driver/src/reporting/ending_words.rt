@@ -7,15 +7,16 @@ ghost use Rattle.std.specs.List.{flat_map};
 ghost use Rattle.krb_driver.specs.Messages.{pieces_text};
 
 use crate::error::RunError;
-use crate::reporting::details::Details;
+use crate::reporting::details::About;
 use crate::reporting::hints::add_hints;
-use crate::reporting::lines::{Line, nothing, numbered_line};
+use crate::reporting::lines::{Line, line, nothing, numbered_line};
 use crate::reporting::name_words::hidden_words;
-use crate::reporting::piece::MessagePiece::{self, Text};
-use crate::reporting::piece::{END, NONE};
+use crate::reporting::piece::MessagePiece::Text;
+use crate::reporting::piece::{COLON, END, HEAD};
 use crate::reporting::reported::{Failure, Reported};
-use crate::reporting::words::{error_words, listed_words, refusal_phrase, verdict_words};
-use crate::reporting::writing::{Gathered, add_pieces};
+use crate::reporting::row::refusal_phrase;
+use crate::reporting::words::{error_words, listed_words, verdict_words};
+use crate::reporting::writing::{Gathered, add_line};
 use crate::verdict::{FileKind, Findings, Verdict};
 use krb_files::Watched;
 use krb_findings::{ABOUT_TICKETS, FINDINGS, Finding, FindingSet};
@@ -36,30 +37,33 @@ fn add_items<E: Write>(verdict: Verdict, file: &[u8], gathered: &mut Gathered, e
     }
 }
 
-/// Adds the words that explain the end of a run over `file`, or of line `line` of ktutil.
+/// Adds the words that explain the end of a run.
 #[tactic(auto, unfolding(crate::specs::EndingWords::ending_words))]
 pub fn add_ending_words<E: Write>(
     ending: Result<Verdict, RunError>,
-    file: &[u8],
-    line: Option<u64>,
-    details: Details<'_>,
+    about: About<'_>,
     gathered: &mut Gathered,
     err: &mut Watched<E>,
 )
-    ensures { Adds err.old gathered.old.items err.new gathered.new.items (ending_words file.now line details.entry ending) }
+    ensures { Adds err.old gathered.old.items err.new gathered.new.items
+        (ending_words about.entry.file.now about.entry.line about.entry.details ending) }
 {
     match ending {
         Ok(verdict) => {
-            add_pieces(&verdict_words(verdict, file, line), gathered, err);
-            add_items(verdict, file, gathered, err);
+            add_line(
+                &verdict_words(verdict, about.file, about.line),
+                gathered,
+                err,
+            );
+            add_items(verdict, about.file, gathered, err);
         }
-        Err(error) => add_pieces(&error_words(error, file, line, details), gathered, err),
+        Err(error) => add_line(&error_words(error, about), gathered, err),
     }
 }
 
 // Returns the line for a failure: its number and its phrase.
 fn failure_line(kind: FileKind, failure: Option<Failure>) -> Line<'static>
-    ensures { pieces_text result ≡ failure_words kind failure }
+    ensures { pieces_text result.items ≡ failure_words kind failure }
 {
     match failure {
         None => nothing(),
@@ -82,13 +86,13 @@ fn add_failures<E: Write>(
     ensures { Adds err.old gathered.old.items err.new gathered.new.items (flat_map (failure_words kind) failures.now) }
 {
     'failures: for failure in failures {
-        add_pieces(&failure_line(kind, *failure), gathered, err);
+        add_line(&failure_line(kind, *failure), gathered, err);
     }
 }
 
 // Returns the words for what is hidden, if something is.
 fn hidden_words_of(file: &[u8], hidden_from: Option<u32>) -> Line<'_>
-    ensures { pieces_text result ≡ hidden_words_of file.now hidden_from }
+    ensures { pieces_text result.items ≡ hidden_words_of file.now hidden_from }
 {
     match hidden_from {
         Some(place) => hidden_words(file, None, place),
@@ -106,24 +110,18 @@ pub fn add_replies<E: Write>(
     ensures { Adds err.old gathered.old.items err.new gathered.new.items (reported_words file.now reported.now) }
 {
     add_failures(reported.kind, &reported.failures, gathered, err);
-    add_pieces(&hidden_words_of(file, reported.hidden_from), gathered, err);
+    add_line(&hidden_words_of(file, reported.hidden_from), gathered, err);
 }
 
 // Returns the line for a finding, if it is to be explained.
-fn word_line(explained: FindingSet, finding: Finding) -> [MessagePiece<'static>; 5]
-    ensures { pieces_text result ≡ word_line explained finding }
+fn word_line(explained: FindingSet, finding: Finding) -> Line<'static>
+    ensures { pieces_text result.items ≡ word_line explained finding }
 {
     if !explained.has(finding) {
-        return [NONE; 5];
+        return nothing();
     }
     let row = finding.row();
-    [
-        Text("krbfile: "),
-        Text(row.word),
-        Text(": "),
-        Text(row.phrase),
-        END,
-    ]
+    line(&[HEAD, Text(row.word), COLON, Text(row.phrase), END])
 }
 
 fn add_word_lines<E: Write>(
@@ -135,14 +133,14 @@ fn add_word_lines<E: Write>(
     ensures { Adds err.old gathered.old.items err.new gathered.new.items (flat_map (word_line explained) findings.now) }
 {
     'findings: for finding in findings {
-        add_pieces(&word_line(explained, *finding), gathered, err);
+        add_line(&word_line(explained, *finding), gathered, err);
     }
 }
 
 /// Returns the words for the fault that was found, if any.
 #[tactic(auto, unfolding(crate::specs::EndingWords::found_fault_words))]
 pub fn fault_words(file: &[u8], fault: Option<Fault>) -> Line<'_>
-    ensures { pieces_text result ≡ found_fault_words file.now fault }
+    ensures { pieces_text result.items ≡ found_fault_words file.now fault }
 {
     match fault {
         Some(fault) => listed_words(file, fault),
@@ -160,6 +158,6 @@ pub fn add_findings<E: Write>(
     ensures { Adds err.old gathered.old.items err.new gathered.new.items (found_words file.now findings.now) }
 {
     add_word_lines(&FINDINGS, findings.words, gathered, err);
-    add_pieces(&fault_words(file, findings.fault), gathered, err);
+    add_line(&fault_words(file, findings.fault), gathered, err);
     add_hints(findings, file, gathered, err);
 }

@@ -7,10 +7,11 @@ ghost use Rattle.krb_driver.specs.Hints.{etype_option, etype_word, hint_words, h
 ghost use Rattle.krb_driver.specs.Messages.{line_if, piece_text, pieces_text};
 ghost use Rattle.krb_driver.specs.Runs.{Adds};
 
+use crate::reporting::lines::{Line, line, nothing};
 use crate::reporting::operand::{are_alike, operand_of};
-use crate::reporting::piece::MessagePiece::{self, Number, Text};
-use crate::reporting::piece::{END, NONE};
-use crate::reporting::writing::{Gathered, add_pieces};
+use crate::reporting::piece::END;
+use crate::reporting::piece::MessagePiece::{self, Number, Operand, Text};
+use crate::reporting::writing::{Gathered, add_line, add_pieces};
 use crate::verdict::Findings;
 use krb_files::Watched;
 use krb_findings::Finding;
@@ -21,9 +22,6 @@ use std::io::Write;
 const TO_REMOVE: &str = "krbfile: to see what would go: krbfile ktremove";
 
 const TO_COPY: &str = "krbfile: to have each once: krbfile ktcopy";
-
-/// The pieces of a hint.
-type Hint<'a> = [MessagePiece<'a>; 5];
 
 // Returns an enctype as an operand: its name, or its number if it has none.
 fn etype_word(etype: u16) -> MessagePiece<'static>
@@ -36,14 +34,14 @@ fn etype_word(etype: u16) -> MessagePiece<'static>
 }
 
 // Returns the option for an enctype, if it was found.
-fn etype_option(found: &[bool; 27], etype: u16) -> [MessagePiece<'static>; 2]
+fn etype_option(found: &[bool; 27], etype: u16) -> Line<'static>
     requires { etype < 27 }
-    ensures { pieces_text result ≡ etype_option found.now etype }
+    ensures { pieces_text result.items ≡ etype_option found.now etype }
 {
     if found[usize::from(etype)] {
-        [Text(" -e "), etype_word(etype)]
+        line(&[Text(" -e "), etype_word(etype)])
     } else {
-        [NONE, NONE]
+        nothing()
     }
 }
 
@@ -51,7 +49,7 @@ fn add_etypes<E: Write>(found: &[bool; 27], gathered: &mut Gathered, err: &mut W
     ensures { Adds err.old gathered.old.items err.new gathered.new.items (flat_map (etype_option found.now) (range_with_len 0 27)) }
 {
     'etypes: for etype in 0..27u16 {
-        add_pieces(&etype_option(found, etype), gathered, err);
+        add_line(&etype_option(found, etype), gathered, err);
     }
 }
 
@@ -74,20 +72,21 @@ fn hint<'a>(
     options: &'static str,
     operand: &'a [u8],
     tail: &'static str,
-) -> Hint<'a>
-    ensures { pieces_text result ≡ line_if (has findings.now.words word)
+) -> Line<'a>
+    ensures { pieces_text result.items ≡ line_if (has findings.now.words word)
         (head.now ++ (order_flag findings.now.v1_order ++ (options.now ++ (operand.now ++ tail.now)))) }
 {
     if !findings.words.has(word) {
-        return [NONE; 5];
+        return nothing();
     }
-    [
+    let flag = Text(order_flag(findings.v1_order));
+    line(&[
         Text(head),
-        Text(order_flag(findings.v1_order)),
+        flag,
         Text(options),
-        MessagePiece::Operand(operand),
+        Operand(operand),
         Text(tail),
-    ]
+    ])
 }
 
 // Returns the dry run of ktremove, up to its options.
@@ -101,7 +100,7 @@ fn remove_command(order: Order) -> [MessagePiece<'static>; 3]
 fn last_of<'a>(operand: &'a [u8]) -> [MessagePiece<'a>; 3]
     ensures { pieces_text result ≡ codes " " ++ (operand.now ++ codes "\n") }
 {
-    [Text(" "), MessagePiece::Operand(operand), END]
+    [Text(" "), Operand(operand), END]
 }
 
 // Adds the hint for weak enctypes, if there is one.
@@ -133,9 +132,9 @@ fn add_hints_for<E: Write>(
     let before = " -n -k old --age 86400 ";
     let old = hint(findings, Finding::Old, TO_REMOVE, before, operand, "\n");
     let same = hint(findings, Finding::Same, TO_COPY, " ", operand, " NEW\n");
-    add_pieces(&old, gathered, err);
+    add_line(&old, gathered, err);
     add_weak_hint(findings, operand, gathered, err);
-    add_pieces(&same, gathered, err);
+    add_line(&same, gathered, err);
 }
 
 /// Adds the hints for findings about a file, unless its name is too long for them, or shells read it in more than one way.

@@ -7,57 +7,53 @@ ghost use Rattle.krb_driver.specs.Runs.{Writes};
 
 use crate::command_line::mistake::{BadLine, Mistake, More, Phrase, WordFault};
 use crate::reporting::ErrorOutput;
+use crate::reporting::lines::{Line, line, nothing};
 use crate::reporting::piece::MessagePiece::{self, Quoted, Text, Word};
-use crate::reporting::piece::NONE;
-use crate::reporting::writing::{add_pieces, send, write_pieces};
+use crate::reporting::writing::{add_line, send, write_pieces};
 use arrayvec::ArrayVec;
 use krb_files::Watched;
 use std::io::Write;
 
 const HEAD: MessagePiece<'static> = Text("krbfile: bad command line\nkrbfile: ");
 
-/// The pieces of the message for a bad command line. Unused ones are empty.
-type Line<'a> = [MessagePiece<'a>; 6];
-
 // Returns the message for a mistake.
 fn mistake_pieces(mistake: Mistake<'_>) -> Line<'_>
-    ensures { pieces_text result ≡ mistake_head ++ mistake_line (mistake_parts mistake.entry) }
+    ensures { pieces_text result.items ≡ mistake_head ++ mistake_line (mistake_parts mistake.entry) }
 {
     let (word, other) = (mistake.word, Word(mistake.other));
     match mistake.phrase {
-        Phrase::Shown(before, between, after) => [
-            HEAD,
-            Text(before),
-            Word(word),
-            Text(between),
-            other,
-            Text(after),
-        ],
-        Phrase::Quoted(between) => [HEAD, Quoted(word), Text(between), other, NONE, NONE],
+        Phrase::Shown(before, between, after) => {
+            let (before, between, after) = (Text(before), Text(between), Text(after));
+            line(&[HEAD, before, Word(word), between, other, after])
+        }
+        Phrase::Quoted(between) => line(&[HEAD, Quoted(word), Text(between), other]),
     }
 }
 
 // Returns the reference to the help: krbfile's, or a command's.
-fn help_pieces(command: Option<&str>) -> [MessagePiece<'_>; 3]
-    ensures { pieces_text result ≡ help_of (option_map (λ name. name.now) command.entry) }
+fn help_pieces(command: Option<&str>) -> Line<'_>
+    ensures { pieces_text result.items ≡ help_of (option_map (λ name. name.now) command.entry) }
 {
-    let end = Text(" --help\n");
-    match command {
-        None => [Text("; see krbfile"), NONE, end],
-        Some(command) => [Text("; see krbfile "), Text(command), end],
-    }
+    let (program, command) = match command {
+        None => ("; see krbfile", ""),
+        Some(command) => ("; see krbfile ", command),
+    };
+    line(&[Text(program), Text(command), Text(" --help\n")])
 }
 
 // Returns what follows the line of a mistake.
-fn more_pieces(more: More<'_>) -> [MessagePiece<'_>; 3]
-    ensures { pieces_text result ≡ more_words more.entry }
+fn more_pieces(more: More<'_>) -> Line<'_>
+    ensures { pieces_text result.items ≡ more_words more.entry }
 {
-    let end = Text("?\n");
     match more {
-        More::Nothing => [NONE, NONE, NONE],
-        More::MeantCommand(name) => [Text("krbfile: did you mean "), Text(name), end],
-        More::MeantOption(name) => [Text("krbfile: did you mean --"), Text(name), end],
-        More::Help(text) => [Text(text), NONE, NONE],
+        More::Nothing => nothing(),
+        More::MeantCommand(name) => {
+            line(&[Text("krbfile: did you mean "), Text(name), Text("?\n")])
+        }
+        More::MeantOption(name) => {
+            line(&[Text("krbfile: did you mean --"), Text(name), Text("?\n")])
+        }
+        More::Help(text) => line(&[Text(text)]),
     }
 }
 
@@ -67,9 +63,9 @@ fn report_mistake<E: Write>(line: BadLine<'_>, err: &mut Watched<E>)
         ++ mistake_words line.entry.mistake (option_map (λ name. name.now) line.entry.command) line.entry.more) }
 {
     let mut gathered = ArrayVec::new();
-    add_pieces(&mistake_pieces(line.mistake), &mut gathered, err);
-    add_pieces(&help_pieces(line.command), &mut gathered, err);
-    add_pieces(&more_pieces(line.more), &mut gathered, err);
+    add_line(&mistake_pieces(line.mistake), &mut gathered, err);
+    add_line(&help_pieces(line.command), &mut gathered, err);
+    add_line(&more_pieces(line.more), &mut gathered, err);
     send(&gathered, err);
 }
 

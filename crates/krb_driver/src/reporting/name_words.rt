@@ -1,18 +1,22 @@
 //! The words about names of files, and about entries that MIT's programs do not see.
 
-ghost use Rattle.std.specs.Prelude.{◌≡◌, ◌++◌, codes, decimal, is_some};
+ghost use Rattle.std.specs.Prelude.{◌≡◌, ◌++◌, codes, is_some};
 ghost use Rattle.krb_driver.specs.FileNames.{shown_name, untyped};
-ghost use Rattle.krb_driver.specs.Messages.{piece_text, pieces_text};
+ghost use Rattle.krb_driver.specs.Messages.{piece_text, pieces_text, words_line};
 ghost use Rattle.krb_driver.specs.EndingWords.{hidden_words, missing_words, other_type_words, source_words, type_in, type_words, typed_words};
 ghost use Rattle.krb_driver.specs.declared.verdict.FileKind.TheVariants.{Keytab};
 
 use crate::file_name::{NameSource, type_of};
-use crate::reporting::lines::{Line, alone, phrase, words, words_before};
-use crate::reporting::piece::MessagePiece::{self, Name, Number, Text};
-use crate::reporting::piece::{HEAD, LINE, NONE};
+use crate::reporting::lines::{Line, alone, phrase, words};
+use crate::reporting::piece::END;
+use crate::reporting::piece::MessagePiece::{self, Name, Text};
+use crate::reporting::row::Subject;
+use crate::reporting::said::message_of;
 use crate::verdict::FileKind;
 
-const COLLECTION: &str = "a collection; give one of its caches, DIR::FILE";
+const COLLECTION: &str = "a collection; give one of its caches, DIR::FILE\n";
+
+const SEES_NONE: &str = "MIT's programs see no entry from ";
 
 // Returns the words that say where a file's name comes from, if no word of a line gave it; or how a principal is named.
 fn source_line(source: NameSource) -> &'static str
@@ -30,7 +34,7 @@ fn source_line(source: NameSource) -> &'static str
 /// Returns the words for a missing file: ktutil says it once more, and a run says where a name comes from that it was
 /// not given.
 pub fn missing_words<'a>(line: Option<u64>, source: NameSource) -> Line<'a>
-    ensures { pieces_text result ≡ missing_words line source }
+    ensures { pieces_text result.items ≡ missing_words line source }
 {
     match line {
         None => alone(source_line(source)),
@@ -50,10 +54,20 @@ fn type_in(name: &[u8]) -> MessagePiece<'_>
 
 /// Returns the words for a name of a type that is not read.
 pub fn type_words(line: Option<u64>, name: &[u8], source: NameSource) -> Line<'_>
-    ensures { pieces_text result ≡ type_words line name.now ++ source_words source }
+    ensures { pieces_text result.items ≡ type_words line name.now source }
 {
     let first = Text("only files are read, and this is ");
-    words_before(line, first, type_in(name), source_line(source))
+    words(
+        line,
+        &[first, type_in(name), END, Text(source_line(source))],
+    )
+}
+
+// Returns the words for a name of a collection of caches.
+fn collection_words<'a>(line: Option<u64>, source: NameSource) -> Line<'a>
+    ensures { pieces_text result.items ≡ words_line line (codes "a collection; give one of its caches, DIR::FILE\n" ++ source_words source) }
+{
+    words(line, &[Text(COLLECTION), Text(source_line(source))])
 }
 
 /// Returns the words for a name of a type that is not read, of a file that is to be of that kind.
@@ -63,11 +77,11 @@ pub fn other_type_words(
     name: &[u8],
     source: NameSource,
 ) -> Line<'_>
-    ensures { pieces_text result ≡ other_type_words line kind name.now ++ source_words source }
+    ensures { pieces_text result.items ≡ other_type_words line kind name.now source }
 {
     match kind {
         FileKind::Cache | FileKind::Either if name.starts_with(b"DIR:") => {
-            words_before(line, Text(COLLECTION), NONE, source_line(source))
+            collection_words(line, source)
         }
         _ => type_words(line, name, source),
     }
@@ -82,31 +96,22 @@ fn is_untyped(name: &[u8]) -> bool
 
 /// Returns the words for a name that begins with a type where a file is to be written.
 pub fn typed_words(line: Option<u64>, name: &[u8]) -> Line<'_>
-    ensures { pieces_text result ≡ typed_words line name.now }
+    ensures { pieces_text result.items ≡ typed_words line name.now }
 {
     if is_untyped(name) {
-        words(line, Text("leave out "), type_in(name))
+        words(line, &[Text("leave out "), type_in(name), END])
     } else {
         type_words(line, name, NameSource::Word)
     }
 }
 
-// Returns these words for a file, or for a line of ktutil, after a text.
-fn hidden_after<'a>(head: MessagePiece<'a>, subject: MessagePiece<'a>, place: u32) -> Line<'a>
-    ensures { pieces_text result ≡ piece_text head.entry ++ (piece_text subject.entry
-        ++ (codes ": MIT's programs see no entry from " ++ (decimal place ++ codes " on\n"))) }
-{
-    let from = Text(": MIT's programs see no entry from ");
-    let (place, on) = (Number(u64::from(place)), Text(" on\n"));
-    [head, subject, from, place, on, NONE, NONE, NONE, NONE]
-}
-
 /// Returns the words for an entry that was added and that MIT's programs do not see, as they see none from `place` on.
 pub fn hidden_words(file: &[u8], line: Option<u64>, place: u32) -> Line<'_>
-    ensures { pieces_text result ≡ hidden_words file.now line place }
+    ensures { pieces_text result.items ≡ hidden_words file.now line place }
 {
-    match line {
-        None => hidden_after(HEAD, Name(file), place),
-        Some(line) => hidden_after(LINE, Number(line), place),
-    }
+    let subject = match line {
+        None => Subject::File,
+        Some(line) => Subject::Line(line),
+    };
+    message_of(subject, file, (SEES_NONE, Some(place), " on"))
 }

@@ -8,8 +8,9 @@ ghost use Rattle.krb_driver.specs.Runs.{NamesNear, Writes, near_words, words_if}
 use crate::reporting::ErrorOutput;
 use crate::reporting::ending_words::fault_words;
 use crate::reporting::lines::{Line, nothing, words};
+use crate::reporting::piece::END;
 use crate::reporting::piece::MessagePiece::{Operand, Text};
-use crate::reporting::writing::{add_pieces, send};
+use crate::reporting::writing::{add_line, send};
 use arrayvec::ArrayVec;
 use krb_files::Watched;
 use krb_walk::Fault;
@@ -18,10 +19,10 @@ use std::io::Write;
 // Returns the words for a name that the keytab has, if one is given.
 #[tactic(auto, unfolding(crate::specs::Runs::near_words))]
 fn near_words(near: Option<&[u8]>) -> Line<'_>
-    ensures { pieces_text result ≡ near_words (option_map (λ name. name.now) near.entry) }
+    ensures { pieces_text result.items ≡ near_words (option_map (λ name. name.now) near.entry) }
 {
     match near {
-        Some(name) => words(None, Text("the keytab has "), Operand(name)),
+        Some(name) => words(None, &[Text("the keytab has "), Operand(name), END]),
         None => nothing(),
     }
 }
@@ -39,8 +40,8 @@ fn write_near<E: Write>(
 {
     let mut gathered = ArrayVec::new();
     if explains {
-        add_pieces(&near_words(near), &mut gathered, err);
-        add_pieces(&fault_words(file, fault), &mut gathered, err);
+        add_line(&near_words(near), &mut gathered, err);
+        add_line(&fault_words(file, fault), &mut gathered, err);
     }
     send(&gathered, err);
 }

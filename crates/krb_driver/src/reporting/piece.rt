@@ -26,7 +26,11 @@ pub enum MessagePiece<'a> {
     Escaped(FirstWord),
 }
 
-pub const NONE: MessagePiece<'static> = MessagePiece::Text("");
+impl Default for MessagePiece<'_> {
+    fn default() -> Self {
+        MessagePiece::Text("")
+    }
+}
 
 /// What each line begins with.
 pub const HEAD: MessagePiece<'static> = MessagePiece::Text("krbfile: ");

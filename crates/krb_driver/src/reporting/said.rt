@@ -1,107 +1,110 @@
-//! What messages say of a file after its name.
+//! What messages say.
 
-ghost use Rattle.std.specs.Prelude.{◌≡◌, ◌++◌, OnOk};
-ghost use Rattle.krb_driver.specs.Messages.{file_message, numbered, pieces_text, said_text};
-ghost use Rattle.krb_driver.specs.RunErrors.{not_opened_said, refused, said_of_file};
+ghost use Rattle.std.specs.Prelude.{◌≡◌, [], ◌++◌, decimal, OnOk};
+ghost use Rattle.std.specs.Option.{option_map_or};
+ghost use Rattle.krb_driver.specs.ErrorRows.{said_text, says_of};
+ghost use Rattle.krb_driver.specs.Messages.{file_message, phrase_line, piece_text, pieces_text};
+ghost use Rattle.krb_driver.specs.RunErrors.{message_about, said_of_file};
 
 use crate::error::RunError;
 use crate::not_opened::OpenFault;
-use crate::reporting::lines::Line;
-use crate::reporting::piece::MessagePiece::{Name, Number, Text};
-use crate::reporting::piece::{COLON, END, HEAD, NONE};
+use crate::reporting::lines::{Line, line, words};
+use crate::reporting::piece::MessagePiece::{self, Name, Number, Text};
+use crate::reporting::piece::{COLON, END, HEAD};
+use crate::reporting::row::Subject;
 use itoa::Buffer;
+use krb_text::LineFault;
 use krb_walk::Code;
 use krb_wire::NoMemory;
 use std::alloc::Allocator;
 
-/// A text; or two, with a number between them.
+/// What a message says after what it is about.
 #[derive(Clone, Copy)]
-pub struct Said {
-    before: &'static str,
-    number: Option<u32>,
-    after: &'static str,
+pub enum Said {
+    /// A text.
+    Alone(&'static str),
+    Refused(Code),
+    /// The fault of a line.
+    Faulty(LineFault),
+    /// Why a file did not open.
+    NotOpened(OpenFault),
 }
+
+/// A text, a number if there is one, and the text after it.
+type Parts = (&'static str, Option<u32>, &'static str);
 
 impl Said {
-    /// Returns a text alone.
-    pub fn alone(before: &'static str) -> Said
-        ensures { said_text result ≡ before.now }
+    fn parts(self) -> Parts
+        ensures { said_text (says_of self) ≡ result.0.now ++ (option_map_or decimal result.1 [] ++ result.2.now) }
     {
-        Said {
-            before,
-            number: None,
-            after: "",
-        }
-    }
-
-    // Returns a number between two texts.
-    fn numbered(before: &'static str, number: u32, after: &'static str) -> Said
-        ensures { said_text result ≡ numbered before.now number after.now }
-    {
-        Said {
-            before,
-            number: Some(number),
-            after,
-        }
-    }
-
-    /// Returns what is said of a refusal.
-    pub fn refused(code: Code) -> Said
-        ensures { said_text result ≡ refused code }
-    {
-        Said::numbered("refused ", code.number(), "")
-    }
-
-    // Returns what is said of a file that did not open.
-    fn not_opened(fault: OpenFault) -> Said
-        ensures { said_text result ≡ not_opened_said fault }
-    {
-        let before = match fault {
-            OpenFault::Keytab(_) => "not a keytab (",
-            OpenFault::Cache(_) => "not a cache (",
-        };
-        Said::numbered(before, fault.number(), ")")
-    }
-
-    /// Returns what the message for an error says after the name of a file; nothing if it names none.
-    pub fn of(error: RunError) -> Said
-        ensures { said_text result ≡ said_of_file error }
-    {
-        match error {
-            RunError::DamagedInput(_) => Said::refused(Code::Damaged),
-            RunError::NoSuchFile(_) | RunError::OtherType(..) => Said::alone("no such file"),
-            RunError::FileTooLarge => Said::alone("file too large"),
-            RunError::FileNotRead => Said::alone("cannot read"),
-            RunError::FileNotWritten | RunError::TypedName => Said::alone("cannot write"),
-            RunError::NotOpened(why) => Said::not_opened(why.fault),
-            RunError::Refused(_, code) => Said::refused(code),
-            RunError::NothingToCopy | RunError::NoTicketIn(_) => Said::refused(Code::NotFound),
-            _ => Said::alone(""),
+        match self {
+            Said::Alone(text) => (text, None, ""),
+            Said::Refused(code) => ("refused ", Some(code.number()), ""),
+            Said::Faulty(fault) => ("fault ", Some(fault.number()), ""),
+            Said::NotOpened(OpenFault::Keytab(why)) => ("not a keytab (", Some(why.number()), ")"),
+            Said::NotOpened(OpenFault::Cache(why)) => ("not a cache (", Some(why.number()), ")"),
         }
     }
 }
 
-/// Returns the message `krbfile: FILE: WHAT`.
-pub fn said_message(file: &[u8], said: Said) -> Line<'_>
-    ensures { pieces_text result ≡ file_message file.now (said_text said) }
+// Returns a number, if there is one.
+fn number_if(number: Option<u32>) -> MessagePiece<'static>
+    ensures { piece_text result ≡ option_map_or decimal number [] }
 {
-    let (file, before, after) = (Name(file), Text(said.before), Text(said.after));
-    let number = match said.number {
+    match number {
         Some(number) => Number(u64::from(number)),
-        None => NONE,
-    };
-    [HEAD, file, COLON, before, number, after, END, NONE, NONE]
+        None => Text(""),
+    }
+}
+
+// Returns the message about the run or a line of the input.
+fn input_message<'a>(line: Option<u64>, parts: Parts) -> Line<'a>
+    ensures { pieces_text result.items ≡ phrase_line line (parts.entry.0.now ++ (option_map_or decimal parts.entry.1 [] ++ parts.entry.2.now)) }
+{
+    let (before, number, after) = (Text(parts.0), number_if(parts.1), Text(parts.2));
+    words(line, &[before, number, after, END])
+}
+
+// Returns the message about a file.
+fn file_message(file: &[u8], parts: Parts) -> Line<'_>
+    ensures { pieces_text result.items ≡ file_message file.now (parts.entry.0.now ++ (option_map_or decimal parts.entry.1 [] ++ parts.entry.2.now)) }
+{
+    let (before, number, after) = (Text(parts.0), number_if(parts.1), Text(parts.2));
+    line(&[HEAD, Name(file), COLON, before, number, after, END])
+}
+
+/// Returns the message that has these parts after what it is about.
+pub fn message_of(subject: Subject, file: &[u8], parts: Parts) -> Line<'_>
+    ensures { pieces_text result.items ≡ message_about subject file.now
+        (parts.entry.0.now ++ (option_map_or decimal parts.entry.1 [] ++ parts.entry.2.now)) }
+{
+    match subject {
+        Subject::Run => input_message(None, parts),
+        Subject::File => file_message(file, parts),
+        Subject::Line(line) => input_message(Some(line), parts),
+    }
+}
+
+/// Returns the message that says that of the run, of a file or of a line of the input.
+pub fn message(subject: Subject, file: &[u8], said: Said) -> Line<'_>
+    ensures { pieces_text result.items ≡ message_about subject file.now (said_text (says_of said)) }
+{
+    message_of(subject, file, said.parts())
 }
 
 /// Appends what the message for an error says after the name of a file; nothing if it names none.
 pub fn append_said<A: Allocator>(error: RunError, out: &mut Vec<u8, A>) -> Result<(), NoMemory>
     ensures { OnOk result (out.new.items ≡ out.old.items ++ said_of_file error) }
 {
-    let said = Said::of(error);
-    out.extend_from_slice(said.before.as_bytes())?;
-    if let Some(number) = said.number {
+    let row = error.row();
+    if !matches!(row.subject, Subject::File) {
+        return Ok(());
+    }
+    let (before, number, after) = row.said.parts();
+    out.extend_from_slice(before.as_bytes())?;
+    if let Some(number) = number {
         out.extend_from_slice(Buffer::new().format(number).as_bytes())?;
     }
-    out.extend_from_slice(said.after.as_bytes())?;
+    out.extend_from_slice(after.as_bytes())?;
     Ok(())
 }

@@ -7,6 +7,7 @@ ghost use Rattle.krb_driver.specs.Runs.{Adds, Sends, Writes};
 
 use crate::file_name::name_byte;
 use crate::reporting::key_start::{has_key, key_start};
+use crate::reporting::lines::Line;
 use crate::reporting::piece::{MessagePiece, escaped_byte, shown_byte};
 use arrayvec::ArrayVec;
 use itoa::Buffer;
@@ -123,6 +124,13 @@ pub fn add_pieces<E: Write>(
     'pieces: for piece in pieces {
         add_piece(*piece, gathered, err);
     }
+}
+
+/// Adds the pieces of a line.
+pub fn add_line<E: Write>(line: &Line<'_>, gathered: &mut Gathered, err: &mut Watched<E>)
+    ensures { Adds err.old gathered.old.items err.new gathered.new.items (pieces_text line.now.items) }
+{
+    add_pieces(line.as_slice(), gathered, err);
 }
 
 /// Writes out the buffer. Ignores a failure.

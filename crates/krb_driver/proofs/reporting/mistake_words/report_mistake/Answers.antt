@@ -6,5 +6,5 @@ use Rattle.krb_driver.proofs.reporting.mistake_words.report_mistake.Goals as goa
 pub returns : goal.returns
 unfolding mistake_words
 returns g c =
-    Writes-two _ _ _ _ _ _ _ _ (rw (c.new-gathered.ensures, c.mistake_pieces.ensures) at c.add_pieces.ensures)
-    (Adds-then _ _ _ _ _ _ _ _ (rw c.help_pieces.ensures at c.add_pieces-2.ensures) (rw c.more_pieces.ensures at c.add_pieces-3.ensures)) c.send.ensures
+    Writes-two _ _ _ _ _ _ _ _ (rw (c.new-gathered.ensures, c.mistake_pieces.ensures) at c.add_line.ensures)
+    (Adds-then _ _ _ _ _ _ _ _ (rw c.help_pieces.ensures at c.add_line-2.ensures) (rw c.more_pieces.ensures at c.add_line-3.ensures)) c.send.ensures
