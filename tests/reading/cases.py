@@ -9,7 +9,8 @@ from reading.sources import CRATES, Place, Sources
 # What is not opened: the words of a terminal.
 CLOSED = {(f"krb_driver/specs/{file}", name) for file, name in (
     ("EndingWords", "ending_words"), ("EndingWords", "found_fault_words"), ("Mistakes", "mistake_words"),
-    ("Runs", "near_words"), ("Beginnings", "begins_as"), ("FirstWords", "safe_word"))}
+    ("Runs", "near_words"), ("NotOpened", "not_opened_phrase"), ("ErrorRows", "refusal_phrase"),
+    ("Beginnings", "begins_as"), ("FirstWords", "safe_word"))}
 # The crates and files of streams, the order of messages, statuses and saves.
 FRAME = ("krb_driver/", "krb_files/", "krb_editors/specs/Removing", "krb_editors/specs/MissingFiles")
 LISTS_KEYTAB, LISTS_CACHE = {"ListKind": "Keytab"}, {"ListKind": "Cache"}

@@ -6,7 +6,6 @@ use Rattle.std.specs.Result.{result_err}
 use Rattle.krb_files.specs.declared.files.Files.{Ghosts}
 use Rattle.krb_audit.specs.Selection.{needs_clock}
 use Rattle.krb_commands.specs.declared.action.Action.{Action}
-use Rattle.krb_commands.specs.declared.needs.LeftOut.{LeftOut}
 use Rattle.krb_commands.specs.declared.needs.Needs.{Needs}
 use Rattle.krb_commands.specs.declared.action.Action.TheVariants.{CheckTicket, Overview, Ccedit, Ccremove, Klist, Ktcheck, Ktcopy, Ktdiff, Ktedit, Ktfind, Ktmatch, Ktremove, Ktutil, Show, Hold, HoldOnTerminal, Help}
 use Rattle.krb_driver.specs.declared.command_line.mistake.WordFault.{WordFault}
@@ -29,7 +28,7 @@ use Rattle.krb_driver.specs.Loading.{result_map}
 use Rattle.krb_readers.specs.Klist.{file_kind, ListsAll, RunsTicketCheck, listing_of, ticket_check_of}
 use Rattle.krb_readers.specs.Overview.{SurveysAll, overview_of}
 use Rattle.krb_readers.specs.declared.klist.ticket_check.TicketCheck.{TicketCheck}
-use Rattle.krb_readers.specs.Ktcheck.{ChecksAll}
+use Rattle.krb_readers.specs.Ktcheck.{ChecksWith, aged_by}
 use Rattle.krb_readers.specs.KtcheckWords.{keytab_check_of}
 use Rattle.krb_readers.specs.Ktmatch.{MatchesAll}
 use Rattle.krb_readers.specs.KtmatchWords.{ticket_match_of}
@@ -43,7 +42,7 @@ use Rattle.krb_editors.specs.Removing.{RemovesWith}
 use Rattle.krb_editors.specs.Ktremove.{ktremove_plan, needed_time, removal_of}
 use Rattle.krb_ktutil.specs.KtutilTalk.{RunsKtutil}
 use Rattle.krb_driver.specs.Mistakes.{Matched, v1_order, MistakeParts, word_status, word_text}
-use Rattle.krb_driver.specs.Runs.{Run, Writes, ends_by}
+use Rattle.krb_driver.specs.Runs.{Writes, ends_by}
 use Rattle.krb_editors.specs.Sessions.{RunsScript}
 use Rattle.krb_keytab_text.specs.Script.{event_in}
 use Rattle.krb_cache_text.specs.Script.{cache_line_in}
@@ -175,10 +174,6 @@ at_terminal shows types (Ok (Hold kind file)) = Ok (if shows then HoldOnTerminal
 at_terminal shows types (Ok (Ktutil options)) = Ok (Ktutil (record options { prompts = types }))
 at_terminal shows types parsed = parsed
 
--- the run that prints a help text
-abbrev pub help_run : List ℕ → Run
-help_run text = record { out = text; ending = Ok Well }
-
 -- the name of a file that a command line leaves out, or why there is none
 abbrev pub DefaultName : Type 0
 DefaultName = Result FileName WordFault
@@ -220,7 +215,7 @@ module _ {F R W E : Type 0} (trait : Ghosts F) (old new : World F R W E) (status
   EndsAction (CheckTicket check names) = ChecksTickets trait old new status check now (file_or (slice_get names.items 0) default)
   EndsAction (Ktfind options file) = Runs trait (always (ktfind_plan options file)) any old new status
   EndsAction (Ktedit order file) = RunsScript trait old new status (ktedit_plan order file) (ktedit_fairly order file) event_in
-  EndsAction (Ktcheck options names) = RunsOn trait old new status (ChecksAll trait options now old new status) (files_or names.items default)
+  EndsAction (Ktcheck options names) = RunsOn trait old new status (λ files. ChecksWith trait options old new status files (aged_by options.older now)) (files_or names.items default)
   EndsAction (Show options names) = RunsOn trait old new status (λ files. ShowsAll trait options.v1_order old new status files now) (files_or names.items default)
   EndsAction (Ktmatch options keytab names) = RunsOn trait old new status (MatchesAll trait options keytab old new status) (files_or names.items default)
   EndsAction (Ktremove options names) = RemovesWith trait Keytab names.items old new status (ktremove_plan options) (needed_time options.selection.kvno now)
@@ -231,7 +226,7 @@ module _ {F R W E : Type 0} (trait : Ghosts F) (old new : World F R W E) (status
   EndsAction (Ccremove options names) = RemovesWith trait Cache names.items old new status (ccremove_plan options) (ended_by options now)
   EndsAction (Hold kind file) = RunsHold trait old new status kind file
   EndsAction HoldOnTerminal = Prints trait old new status (ends_by OutputIsTerminal)
-  EndsAction (Help text) = Prints trait old new status (help_run (string_bytes text))
+  EndsAction (Help text) = Prints trait old new status (record { out = string_bytes text; ending = Ok Well })
 
   -- the action was run, or it was reported why there is none
   abbrev pub EndsParsed : Result Action WordFault → Type 0

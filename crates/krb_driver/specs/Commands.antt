@@ -16,7 +16,7 @@ pub use Rattle.krb_driver.specs.declared.command.RunEnd.{RunEnd}
 use Rattle.krb_driver.specs.declared.reporting.details.Details.{Details}
 pub use Rattle.krb_driver.specs.declared.command.World.{World}
 use Rattle.krb_driver.specs.Runs.{ErrorWatch, Run, EndsRun, Shows, BreaksOff, Reports, ends_by}
-pub use Rattle.krb_driver.specs.Effects.{Page, text, Effect, Fails, Displays, Saves, ending_of, about, is_save, saves_unless, saved_end, settled, files_after, IsSpent, IsMade, IsFailure}
+pub use Rattle.krb_driver.specs.Effects.{Page, text, Effect, Fails, Displays, Saves, ending_of, about, is_save, saves_unless, saved_end, settled, files_after, IsSpent, IsMade}
 
 -- the plan of a command: which files it holds and loads, and what it comes to by what they give
 abbrev pub CommandPlan : Type 0
@@ -112,7 +112,7 @@ module _ {F : Type 0} (trait : Ghosts F) (old : F) where
 abbrev pub Keeps : {F : Type 0} → Ghosts F → Effect → F → F → Effect → Type 0
 Keeps trait due old new left =
     ((left ≡ settled due) × SameFiles (files_after (trait.file old) due) (trait.file new))
-    ⊎ ((CountsFailure (trait.failure_count old) (trait.failure_count new) × (SameFiles (trait.file old) (trait.file new) × IsFailure left))
+    ⊎ ((CountsFailure (trait.failure_count old) (trait.failure_count new) × (SameFiles (trait.file old) (trait.file new) × (IsTrue (is_unread (ending_of left)) ⊎ ((file : List ℕ) × (left ≡ Fails file error.FileNotWritten)))))
     ⊎ (SameFiles (trait.file old) (trait.file new) × IsSpent left))
 
 -- ---- what is shown

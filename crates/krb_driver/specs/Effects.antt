@@ -1,9 +1,9 @@
 -- What a command comes to: what it prints, saves and ends with.
-use Rattle.std.specs.Prelude.{◌≡◌, ◌⊎◌, ℕ, Bool, true, false, List, Result, Ok, Err, IsTrue}
+use Rattle.std.specs.Prelude.{◌≡◌, ◌⊎◌, ℕ, Bool, true, false, List, Result, Ok, Err}
 use Rattle.krb_files.specs.Files.{FileMap}
 use Rattle.krb_files.specs.Plan.{with_bytes}
 use Rattle.krb_driver.specs.declared.error.RunError.TheVariants as error
-use Rattle.krb_driver.specs.RunErrors.{SaveFault, RunError, Verdict, Ending, is_unread, save_error}
+use Rattle.krb_driver.specs.RunErrors.{SaveFault, RunError, Verdict, Ending, save_error}
 
 -- a page: what is printed, how the run then ends, and whether printing takes memory
 pub record Page : Type 0 where
@@ -65,7 +65,3 @@ IsSpent effect = (file : List ℕ) × (effect ≡ Fails file error.NoMemory)
 -- an effect is the one that is due, or reports that memory ran out
 abbrev pub IsMade : Effect → Effect → Type 0
 IsMade due effect = IsSpent effect ⊎ (effect ≡ due)
-
--- an effect reports that a file was not read, or not written
-abbrev pub IsFailure : Effect → Type 0
-IsFailure effect = IsTrue (is_unread (ending_of effect)) ⊎ ((file : List ℕ) × (effect ≡ Fails file error.FileNotWritten))

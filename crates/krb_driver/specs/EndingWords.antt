@@ -1,5 +1,5 @@
 -- The words that explain how a run ended: what follows its message where words are shown.
-use Rattle.std.specs.Prelude.{ℕ, List, [], ◌++◌, Bool, true, false, nat_eq, if◌then◌else◌, Option, None, Some, is_some, option_map, unwrap_or, Ok, Err, codes, decimal, unsigned_abs}
+use Rattle.std.specs.Prelude.{ℕ, List, [], ◌++◌, Bool, false, nat_eq, if◌then◌else◌, Option, None, Some, is_some, option_map, unwrap_or, Ok, Err, codes, decimal, unsigned_abs}
 use Rattle.std.specs.List.{flat_map, starts_with}
 use Rattle.krb_walk.specs.Phrases.{code_number, fault_number, fault_phrase}
 use Rattle.krb_files.specs.declared.cause.Cause.{Cause}
@@ -27,7 +27,7 @@ use Rattle.krb_driver.specs.FileNames.{shown_name, type_of, untyped}
 use Rattle.krb_driver.specs.FirstWords.{word_text}
 use Rattle.krb_driver.specs.Hints.{hint_words}
 use Rattle.krb_driver.specs.Messages.{file_message, line_if, numbered, numbered_line, words_line, phrase_line}
-use Rattle.krb_driver.specs.RunErrors.{Code, Fault, LineFault, RunError, NameSource, Verdict, FirstWord, Ending}
+use Rattle.krb_driver.specs.RunErrors.{Fault, LineFault, RunError, NameSource, Verdict, FirstWord, Ending}
 
 -- what is wrong with a line of a script, or of ktutil if a line number is given
 abbrev pub line_fault_phrase : Option ℕ → LineFault → List ℕ

@@ -11,21 +11,13 @@ use Rattle.krb_driver.specs.declared.verdict.FileKind.TheVariants.{Keytab, Cache
 abbrev pub is_no_letter : ℕ → Bool
 is_no_letter b = not ((nat_le 65 b && nat_le b 90) || (nat_le 97 b && nat_le b 122))
 
--- a byte is a colon
-abbrev pub is_colon : ℕ → Bool
-is_colon b = b == 58
-
 -- the text before a colon is a type of a file's name: two or more letters
 abbrev pub is_type : List ℕ → Bool
 is_type head = nat_lt 1 (length head) && not (list_any is_no_letter head)
 
--- the part of a word up to a colon at a place, if the text before is a type
-abbrev pub type_before : List ℕ → ℕ → Option (List ℕ)
-type_before word at = if is_type (take at word) then Some (take (at + 1) word) else None
-
 -- the type that a word begins with, with its colon, as `FILE:`
 abbrev pub type_of : List ℕ → Option (List ℕ)
-type_of word = option_and_then (type_before word) (position_from is_colon 0 word)
+type_of word = option_and_then (λ at. if is_type (take at word) then Some (take (at + 1) word) else None) (position_from (λ b. b == 58) 0 word)
 
 -- a word begins with a type
 abbrev pub has_type : List ℕ → Bool

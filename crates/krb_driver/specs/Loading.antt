@@ -1,5 +1,6 @@
 -- What files and the standard input give, and what is opened of it.
-use Rattle.std.specs.Prelude.{◌≡◌, ◌⊎◌, ℕ, Bool, true, false, ◌||◌, List, [], Result, Ok, Err, is_some, if◌then◌else◌, Option, None, Some, ◌≢◌, ◌+◌, ◌<◌, ◌≤◌, length, IfOk, IfErr, IfSome, IsErrOf}
+use Rattle.std.specs.Prelude.{◌≡◌, ◌⊎◌, ℕ, Bool, ◌||◌, List, [], Result, Ok, Err, is_some, if◌then◌else◌, Option, None, Some, ◌≢◌, ◌+◌, ◌<◌, ◌≤◌, length, IfOk, IfErr, IfSome, IsErrOf}
+use Rattle.std.specs.Option.{option_map_or}
 use Rattle.krb_wire.specs.declared.format.KtFormat.TheVariants.{V2}
 use Rattle.krb_wire.specs.declared.format.Order.{Order}
 use Rattle.krb_keytab.specs.Store.{KeytabState, empty, open_result, store_of}
@@ -77,14 +78,9 @@ keytab_in order = by_load (opened_keytab expected.Keytab order)
 abbrev pub listed_in : Order → Answer → Result KeytabState RunError
 listed_in order = by_load (opened_keytab expected.KeytabToList order)
 
--- the keytab in place of a missing file that is to be written: an empty one of version 2, unless the file is to be saved in place
-abbrev pub new_unless : Bool → Result KeytabState RunError
-new_unless true = Err (load_error load.Missing)
-new_unless false = Ok (empty V2 most_bytes)
-
 -- the keytab that a load gives, or an empty one for a missing file that is not to be saved in place, or the error
 abbrev pub keytab_or_empty : Order → Bool → Answer → Result KeytabState RunError
-keytab_or_empty order in_place (Err load.Missing) = new_unless in_place
+keytab_or_empty order in_place (Err load.Missing) = if in_place then Err (load_error load.Missing) else Ok (empty V2 most_bytes)
 keytab_or_empty order in_place answer = keytab_in order answer
 
 -- the keytab that a load gives, or an empty one for a file of no bytes, or a missing one that is not to be saved in place, or the error
@@ -100,14 +96,9 @@ cache_of = by_load (opened_cache expected.Cache)
 abbrev pub matched_in : Answer → Result CacheState RunError
 matched_in = by_load (opened_cache expected.CacheToMatch)
 
--- what was opened, or the error of the refusal, if there is one
-abbrev pub or_refused : {K : Type 0} → (Code → RunError) → K → Option Code → Result K RunError
-or_refused why k None = Ok k
-or_refused why k (Some code) = Err (why code)
-
 -- what was opened, unless it refuses to be changed
 abbrev pub unless_refused : {K : Type 0} → (Code → RunError) → (K → Option Code) → Result K RunError → Result K RunError
-unless_refused why refusal (Ok k) = or_refused why k (refusal k)
+unless_refused why refusal (Ok k) = option_map_or (λ code. Err (why code)) (refusal k) (Ok k)
 unless_refused why refusal (Err e) = Err e
 
 -- why a keytab refuses to be changed: it is damaged

@@ -1,5 +1,5 @@
 -- How a run ends: its verdict, or the error that ends it, its message and its exit status.
-use Rattle.std.specs.Prelude.{ℕ, List, [], if◌then◌else◌, Option, None, Some, codes, max, Bool, true, false, Result, Ok, Err}
+use Rattle.std.specs.Prelude.{ℕ, List, [], if◌then◌else◌, Option, None, Some, max, Bool, true, false, Result, Ok, Err}
 pub use Rattle.krb_walk.specs.declared.fault.Fault.{Fault}
 pub use Rattle.krb_walk.specs.declared.refusal.Code.{Code}
 use Rattle.krb_walk.specs.declared.refusal.Code.TheVariants.{NotFound}

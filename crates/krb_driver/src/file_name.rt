@@ -2,7 +2,7 @@
 
 ghost use Rattle.std.specs.Prelude.{◌≡◌, ◌<◌, ◌++◌, IfSome, OnOk, false, length, option_copied, option_map};
 ghost use Rattle.std.specs.List.{list_any, position_from};
-ghost use Rattle.krb_driver.specs.FileNames.{IsNamed, has_type, is_colon, is_no_letter, is_type, name_byte, shown_name, stripped, type_of, untyped, without_own};
+ghost use Rattle.krb_driver.specs.FileNames.{IsNamed, has_type, is_no_letter, is_type, name_byte, shown_name, stripped, type_of, untyped, without_own};
 
 use crate::verdict::FileKind;
 use krb_wire::NoMemory;
@@ -57,7 +57,7 @@ fn is_type(head: &[u8]) -> bool
 
 // Returns where the first colon is.
 fn first_colon(word: &[u8]) -> Option<usize>
-    ensures is { result ≡ position_from is_colon 0 word.now }
+    ensures is { result ≡ position_from (λ b. b == 58) 0 word.now }
     ensures within { IfSome result (λ at. at < length word.now) }
 {
     word.iter().position(|byte| *byte == b':')

@@ -1,13 +1,15 @@
 //! Opens images as keytabs and caches, and reads the standard input.
 
-ghost use Rattle.std.specs.Prelude.{◌≡◌, ◌⊎◌, Err, IfOk, Ok};
+ghost use Rattle.std.specs.Prelude.{◌≡◌, ◌⊎◌, if◌then◌else◌, Err, IfOk, Ok};
+ghost use Rattle.krb_files.specs.declared.files.LoadFault.TheVariants as load;
+ghost use Rattle.krb_driver.specs.RunErrors.{load_error};
 ghost use Rattle.krb_ccache.specs.Store.{image_of as cache_image};
 ghost use Rattle.krb_files.specs.Files.{answer_of};
 ghost use Rattle.krb_keytab.specs.Store.{empty, image_of};
 ghost use Rattle.krb_wire.specs.declared.format.KtFormat.TheVariants.{V2};
 ghost use Rattle.krb_files.specs.Loading.{most_bytes};
 ghost use Rattle.krb_driver.specs.declared.error.RunError.TheVariants as error;
-ghost use Rattle.krb_driver.specs.Loading.{fresh_in, keytab_or_empty, new_unless, opened_cache, opened_keytab, result_map, GivesInput};
+ghost use Rattle.krb_driver.specs.Loading.{fresh_in, keytab_or_empty, opened_cache, opened_keytab, result_map, GivesInput};
 
 use crate::beginning::begins_as;
 use crate::error::RunError;
@@ -71,7 +73,7 @@ fn new_keytab<A: Allocator + Copy>(alloc: A) -> Result<Keytab<A>, RunError>
 
 // Returns an empty keytab of version 2 in the place of a missing file, unless that is to be saved in place.
 fn new_unless<A: Allocator + Copy>(alloc: A, in_place: bool) -> Result<Keytab<A>, RunError>
-    ensures { (result_map (λ k. k.state) result ≡ new_unless in_place) ⊎ (result_map (λ k. k.state) result ≡ Err error.NoMemory) }
+    ensures { (result_map (λ k. k.state) result ≡ (if in_place then Err (load_error load.Missing) else Ok (empty V2 most_bytes))) ⊎ (result_map (λ k. k.state) result ≡ Err error.NoMemory) }
 {
     if in_place {
         Err(RunError::NoSuchFile(NameSource::Word))

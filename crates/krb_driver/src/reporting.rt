@@ -16,7 +16,7 @@ mod said;
 mod words;
 mod writing;
 
-ghost use Rattle.std.specs.Prelude.{◌≡◌, IsFalse};
+ghost use Rattle.std.specs.Prelude.{◌≡◌};
 ghost use Rattle.krb_driver.specs.Messages.{pieces_text};
 ghost use Rattle.krb_driver.specs.Runs.{Writes, Shows, Reports, aftermath_text, ending_text, Adds};
 ghost use Rattle.krb_driver.specs.RunErrors.{ending_message, error_message, verdict_message};

@@ -1,5 +1,5 @@
 -- What ccremove does.
-use Rattle.std.specs.Prelude.{ℕ, Bool, not, List, [], ◌++◌, ◌&&◌, ◌||◌, ◌==◌, map, length, codes, if◌then◌else◌, Option, None, Some, Result, Ok, Err}
+use Rattle.std.specs.Prelude.{ℕ, Bool, not, List, [], ◌++◌, ◌&&◌, ◌||◌, ◌==◌, map, length, codes, if◌then◌else◌, Option, None, Some, Result, Ok, ok_or}
 use Rattle.std.specs.List.{flat_map, list_any}
 use Rattle.krb_walk.specs.Events.{cut_store}
 use Rattle.krb_ccache.specs.Changes.{without}
@@ -15,7 +15,7 @@ use Rattle.krb_driver.specs.declared.file_name.FileName.{FileName}
 use Rattle.krb_driver.specs.Commands.{Ends, CommandPlan, Effect, Displays, holds, opens, saves_unless, text}
 use Rattle.krb_driver.specs.Mistakes.{Matched, MistakeParts, nothing_selects}
 use Rattle.krb_driver.specs.Spelled.{◌>>=◌, ◌>>◌, each, printed_name}
-use Rattle.krb_driver.specs.Loading.{writable_in}
+use Rattle.krb_driver.specs.Loading.{result_map, writable_in}
 use Rattle.krb_driver.specs.Several.{label_of}
 
 -- what ccremove is asked for: tickets for these servers, or of any if there are none, of services alone, that have ended, and whether they are only listed
@@ -25,14 +25,9 @@ pub record TicketRemoval : Type 0 where
   pub expired : Bool
   pub dry_run : Bool
 
--- the second of the clock, or the error if the clock was not read
-abbrev pub clock_time : Option ℕ → Result (Option ℕ) RunError
-clock_time None = Err ClockNotRead
-clock_time (Some now) = Ok (Some now)
-
 -- the second by which the selected tickets have ended: with `--expired` that of the clock, and otherwise none
 abbrev pub ended_by : TicketRemoval → Option ℕ → Result (Option ℕ) RunError
-ended_by o now = if o.expired then clock_time now else Ok None
+ended_by o now = if o.expired then result_map (λ second. Some second) (ok_or now ClockNotRead) else Ok None
 
 -- a cache after the removal of tickets: they are removed and the cache is rewritten, so that their keys are not in the file any more
 abbrev pub cache_after : CacheState → List ℕ → CacheState
@@ -44,15 +39,11 @@ none_verdict are_several o named =
     if o.expired && (((length o.servers == 0) && not o.all_services) || named) then Well
     else (if are_several then Without else NothingToRemove Cache)
 
--- the places of tickets
-abbrev pub places : List PlacedCredential → List ℕ
-places xs = map (λ x. x.0) xs
-
 -- what ccremove does with a cache: the tickets are removed, if there are any, and a line is printed for each
 abbrev pub removes : TicketRemoval → Bool → List ℕ → CacheState → List PlacedCredential → Effect
 removes o are_several file k xs =
-    if length (places xs) == 0 then Displays file (text [] (none_verdict are_several o (list_any (λ x. names_ticket o.servers o.all_services x.1) (placed_credentials k))))
-    else saves_unless o.dry_run file (image_of (cache_after k (places xs))) (flat_map (λ x. label_of are_several file ++ removed_ticket_line x) xs) Well
+    if length (map (λ x. x.0) xs) == 0 then Displays file (text [] (none_verdict are_several o (list_any (λ x. names_ticket o.servers o.all_services x.1) (placed_credentials k))))
+    else saves_unless o.dry_run file (image_of (cache_after k (map (λ x. x.0) xs))) (flat_map (λ x. label_of are_several file ++ removed_ticket_line x) xs) Well
 
 -- the plan of ccremove for a file, one of several or not: the file is held, unless it is a dry run, and opened as a cache; the selected tickets are removed
 abbrev pub ccremove_plan : TicketRemoval → Option ℕ → Bool → FileName → CommandPlan

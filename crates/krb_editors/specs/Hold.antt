@@ -1,5 +1,5 @@
 -- What hold does with an image, and how it is handed on.
-use Rattle.std.specs.Prelude.{ℕ, ◌+◌, ◌-◌, List, ◌++◌, length, drop, take, codes, decimal, ◌==◌, if◌then◌else◌, option_map, Option, None, Some, ◌≡◌, nat_lt, Bool, true, false, bytes_eq, [], ◌∷◌, Result, Ok, Err, OnOk}
+use Rattle.std.specs.Prelude.{ℕ, ◌+◌, ◌-◌, List, ◌++◌, length, drop, take, codes, decimal, ◌==◌, if◌then◌else◌, option_and_then, option_map, Option, None, Some, ◌≡◌, nat_lt, Bool, true, false, bytes_eq, [], ◌∷◌, Result, Ok, Err, OnOk}
 use Rattle.std.specs.List.{position_from}
 use Rattle.krb_text.specs.Numbers.{number_in}
 use Rattle.krb_walk.specs.declared.refusal.Code.TheVariants.{Damaged}
@@ -39,19 +39,10 @@ most_frame = 16777227
 abbrev pub frame : List ℕ → List ℕ
 frame image = decimal (length image) ++ (codes "\n" ++ image)
 
--- the length of a frame's head, up to a newline at `end`, if its number is the number of bytes after it
-abbrev pub head_if : ℕ → ℕ → Option ℕ → Option ℕ
-head_if end len None = None
-head_if end len (Some n) = if len == n then Some (end + 1) else None
-
--- the length of a frame's head in a text, if the text has a newline at `end` and the number before it is the number of bytes after it
-abbrev pub head_of : List ℕ → Option ℕ → Option ℕ
-head_of text None = None
-head_of text (Some end) = head_if end (length text - (end + 1)) (number_in 32 (take end text))
-
 -- the length of the head of a frame, if the text is one whole frame and no more
 abbrev pub head_len : List ℕ → Option ℕ
-head_len text = head_of text (position_from (λ b. b == 10) 0 text)
+head_len text =
+    option_and_then (λ end. option_and_then (λ len. if length text - (end + 1) == len then Some (end + 1) else None) (number_in 32 (take end text))) (position_from (λ b. b == 10) 0 text)
 
 -- the image in a text that is one whole frame
 abbrev pub framed : List ℕ → Option (List ℕ)
@@ -87,15 +78,10 @@ unless_fault why image (Err error) = Err error
 abbrev pub whole_in : (Fault → RunError) → HoldKind → List ℕ → Result (List ℕ) RunError
 whole_in why kind image = unless_fault why image (fault_in kind image)
 
--- the image for a missing file: an empty keytab, if a keytab is held that is not to be saved in place, or else the error
-abbrev pub missing_in : HoldKind → Bool → Result (List ℕ) RunError
-missing_in (Keytab order) false = Ok (5 ∷ 2 ∷ [])
-missing_in kind in_place = Err (load_error Missing)
-
--- the image that hold goes on with by the result of a load, or the error
+-- the image that hold goes on with by the result of a load, or the error: of a missing keytab that is not to be saved in place an empty one
 abbrev pub held_in : HoldKind → Bool → Answer → Result (List ℕ) RunError
+held_in (Keytab order) false (Err Missing) = Ok (5 ∷ 2 ∷ [])
 held_in kind in_place (Ok bytes) = whole_in (λ fault. error.Refused (file_kind kind) Damaged) kind bytes
-held_in kind in_place (Err Missing) = missing_in kind in_place
 held_in kind in_place (Err fault) = Err (load_error fault)
 
 -- the image in the frame that hold was given: not too long, and a keytab or cache without a fault; or the error
@@ -138,14 +124,10 @@ module _ {F : Type 0} (trait : Ghosts F) (file : List ℕ) (loaded : List ℕ) (
   SavesIf true image = Leaves (Ok Left)
   SavesIf false image = (answer : Result (Unit {0}) SaveFault) × (SavesFile trait old file image answer new × (end ≡ result_map (λ done. Saved) (result_map_err (λ fault. (file, save_error fault)) answer)))
 
-  -- an image was saved, unless it is equal to the one that was loaded
-  abbrev pub SavesOther : List ℕ → Type 0
-  SavesOther image = SavesIf (bytes_eq image loaded) image
-
   -- the image that hold was given was saved; or the file was left, as no image was given
   abbrev pub SavesReceived : Result (Option (List ℕ)) RunError → Type 0
   SavesReceived (Ok None) = Leaves (Ok Left)
-  SavesReceived (Ok (Some image)) = SavesOther image
+  SavesReceived (Ok (Some image)) = SavesIf (bytes_eq image loaded) image
   SavesReceived (Err why) = Leaves (Err (codes "input", why))
 
 module _ {F R W E : Type 0} (trait : Ghosts F) (kind : HoldKind) (file : FileName) (new : World F R W E) (end : HoldEnd) where

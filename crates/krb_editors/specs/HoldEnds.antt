@@ -1,16 +1,15 @@
 -- How a run of hold ended, and the last line that says it to the program that started it.
-use Rattle.std.specs.Prelude.{ℕ, ◌+◌, List, ◌++◌, codes, decimal, Option, None, Some, ◌≡◌, IsTrue, Result, Ok, Err}
-use Rattle.krb_walk.specs.declared.refusal.Code.TheVariants.{Damaged}
+use Rattle.std.specs.Prelude.{ℕ, ◌+◌, List, [], ◌++◌, codes, decimal, Option, None, Some, ◌≡◌, IsTrue, Result, Ok, Err}
 use Rattle.krb_walk.specs.Phrases.{code_number}
 use Rattle.krb_files.specs.declared.aftermath.Aftermath.TheVariants as aftermath
 use Rattle.krb_files.specs.declared.cause.Cause.{Cause}
 use Rattle.krb_files.specs.Bytes.{Watch}
 use Rattle.krb_files.specs.Phrases.{cause_name}
-use Rattle.krb_driver.specs.declared.error.RunError.TheVariants as error
 use Rattle.krb_driver.specs.declared.command.FileError.{FileError}
 use Rattle.krb_driver.specs.declared.verdict.Verdict.TheVariants.{Well}
 use Rattle.krb_driver.specs.Loading.{result_map_err}
 use Rattle.krb_driver.specs.declared.error.RunError.{RunError}
+use Rattle.krb_driver.specs.ErrorRows.{NotOpened, Refused, Says, error_row}
 use Rattle.krb_driver.specs.NotOpened.{opening_number}
 use Rattle.krb_driver.specs.RunErrors.{Aftermath, Ending}
 use Rattle.krb_driver.specs.Runs.{Writes}
@@ -42,18 +41,16 @@ abbrev pub cause_name_or : Option Cause → List ℕ
 cause_name_or (Some cause) = cause_name cause
 cause_name_or None = codes "EIO"
 
--- why hold failed, for its last line: a number of krbfile.h for an image that does not open or is refused, or else a name of errno.h
+-- why hold failed, by what the error's message says and by the name in its row: a number of krbfile.h for an image that does not open or is refused, or else a name of errno.h
+abbrev pub why_by : Says → List ℕ → Option Cause → List ℕ
+why_by (NotOpened why) name cause = decimal (10 + opening_number why)
+why_by (Refused code) name cause = decimal (30 + code_number code)
+why_by says [] cause = cause_name_or cause
+why_by says name cause = name
+
+-- why hold failed, for its last line
 abbrev pub why_failed : RunError → Option Cause → List ℕ
-why_failed (error.NotOpened why) cause = decimal (10 + opening_number why.fault)
-why_failed (error.Refused kind code) cause = decimal (30 + code_number code)
-why_failed (error.DamagedInput fault) cause = decimal (30 + code_number Damaged)
-why_failed (error.NoSuchFile source) cause = codes "ENOENT"
-why_failed (error.OtherType kind source) cause = codes "ENOENT"
-why_failed error.FileTooLarge cause = codes "EFBIG"
-why_failed error.InputTooLarge cause = codes "EFBIG"
-why_failed error.InputNotWhole cause = codes "EBADMSG"
-why_failed error.NoMemory cause = codes "ENOMEM"
-why_failed other cause = cause_name_or cause
+why_failed error cause = why_by (error_row error).says (error_row error).name cause
 
 -- the last line of hold by its exit status, the cause of a failed call, what the save left behind, and how hold ended
 abbrev pub last_line : ℕ → Option Cause → Option Aftermath → HoldEnd → List ℕ

@@ -42,16 +42,12 @@ asks_for_some s = not (asks_for_any s) || not (is_any_kvno s.kvno)
 abbrev pub finds_none : SelectionParts → List PlacedEntry → Bool
 finds_none s xs = (length xs == 0) && asks_for_some s
 
--- the verdict of ktcopy after copies without a clash: it reports the place from which on MIT's programs see no entry, if they miss a copy
-abbrev pub copied_verdict : Run → Verdict
-copied_verdict run = hiding (hides_added run.keytab run.places) Well
-
 -- what ktcopy does after its run: it prints the lines, and saves TO if something was copied; after a clash it saves nothing, and prints the clashes, in a dry run all lines
 abbrev pub copied_effect : CopyParts → List ℕ → Result Run Code → Effect
 copied_effect o to (Err code) = Fails to (Refused Keytab code)
 copied_effect o to (Ok run) =
     if has_lines run.clashes then Displays to (text (if o.dry_run then run.text else run.clashes) (Clashed o.replace))
-    else (if has_lines run.text then saves_unless o.dry_run to (image_of run.keytab) run.text (copied_verdict run) else Displays to (text run.text Well))
+    else (if has_lines run.text then saves_unless o.dry_run to (image_of run.keytab) run.text (hiding (hides_added run.keytab run.places) Well) else Displays to (text run.text Well))
 
 -- ktcopy holds TO, unless it is a dry run, opens it, and copies entries into its keytab, under the new name if one is given
 abbrev pub copies_to : CopyParts → FileName → List PlacedEntry → CommandPlan

@@ -30,13 +30,11 @@ verdict_of (b ∷ others) = Differ
 abbrev pub finds_none : SelectionParts → List PlacedEntry → List PlacedEntry → Bool
 finds_none s xs ys = not (asks_for_any s) && ((length xs == 0) && (length ys == 0))
 
--- ktdiff compares the selected entries of A and of B, unless some are asked for and none is selected
-abbrev pub compares : SelectionParts → List ℕ → List PlacedEntry → List PlacedEntry → Effect
-compares s ours xs ys = if finds_none s xs ys then Fails ours NothingToCopy else Displays ours (text (diff_text xs ys) (verdict_of (diff_text xs ys)))
-
 -- ktdiff compares two keytabs by their selected entries
 abbrev pub differs : Comparison → List ℕ → KeytabState → KeytabState → Effect
-differs o ours k j = compares o.selection ours (selected_in o.selection 0 k) (selected_in o.selection 0 j)
+differs o ours k j =
+    let (xs, ys) = (selected_in o.selection 0 k, selected_in o.selection 0 j) in
+    if finds_none o.selection xs ys then Fails ours NothingToCopy else Displays ours (text (diff_text xs ys) (verdict_of (diff_text xs ys)))
 
 -- ktdiff opens B and compares its keytab with that of A
 abbrev pub diffs_from : Comparison → FileName → FileName → KeytabState → CommandPlan

@@ -39,15 +39,11 @@ abbrev pub none_verdict : Bool → SelectionParts → Bool → Verdict
 none_verdict are_several s has_named =
     if asks_for_old s.kvno && (asks_for_any s || has_named) then Well else (if are_several then Without else NothingToRemove Keytab)
 
--- the places of entries
-abbrev pub places : List PlacedEntry → List ℕ
-places xs = map (λ x. x.0) xs
-
 -- what ktremove does with a keytab: the entries xs are removed, if there are any, and a line is printed for each
 abbrev pub removes : Removal → Bool → List ℕ → KeytabState → List PlacedEntry → Effect
 removes o are_several file k xs =
-    if length (places xs) == 0 then Displays file (text [] (none_verdict are_several o.selection (list_any (λ x. is_named o.selection x.1) (placed_entries k))))
-    else saves_unless o.dry_run file (image_of (without k (places xs))) (flat_map (λ x. label_of are_several file ++ removed_line x) xs) Well
+    if length (map (λ x. x.0) xs) == 0 then Displays file (text [] (none_verdict are_several o.selection (list_any (λ x. is_named o.selection x.1) (placed_entries k))))
+    else saves_unless o.dry_run file (image_of (without k (map (λ x. x.0) xs))) (flat_map (λ x. label_of are_several file ++ removed_line x) xs) Well
 
 -- the plan of ktremove for a file, one of several or not: the file is held, unless it is a dry run, and opened as a keytab; the selected entries are removed
 abbrev pub ktremove_plan : Removal → ℕ → Bool → FileName → CommandPlan

@@ -1,5 +1,5 @@
 -- What is seen of several files before anything is done with one of them.
-use Rattle.std.specs.Prelude.{◌≡◌, ◌⊎◌, ◌||◌, List, [], ◌∷◌, length, Bool, true, false, nat_lt, if◌then◌else◌, None, Err}
+use Rattle.std.specs.Prelude.{◌≡◌, ◌⊎◌, ◌||◌, List, [], ◌∷◌, Bool, true, false, if◌then◌else◌, None, Err}
 use Rattle.krb_files.specs.declared.files.Files.{Ghosts}
 use Rattle.krb_files.specs.declared.node.Node.{Node}
 use Rattle.krb_files.specs.declared.node.Node.TheVariants.{Nothing, Unknown}
@@ -48,7 +48,3 @@ module _ {F R W E : Type 0} (trait : Ghosts F) (names : List FileName) (old new 
   abbrev pub LooksIf : Bool → Type 0
   LooksIf true = (new ≡ record old { err = new.err }) × LooksFor trait old.files names old.err new.err missing
   LooksIf false = (new ≡ old) × (missing ≡ false)
-
-  -- where several files are named each was looked at first, and nothing else was done; one file alone is missing when it is loaded
-  abbrev pub LooksFirst : Type 0
-  LooksFirst = LooksIf (nat_lt 1 (length names))

@@ -11,7 +11,7 @@ use Rattle.krb_driver.specs.Commands.{Ghosts, CommandPlan, EndsBefore, Prints, a
 use Rattle.krb_driver.specs.RunErrors.{Ending}
 use Rattle.krb_driver.specs.Runs.{ends_by}
 use Rattle.krb_driver.specs.Several.{RunsOver, first_round}
-use Rattle.krb_editors.specs.MissingFiles.{LooksFirst}
+use Rattle.krb_editors.specs.MissingFiles.{LooksIf}
 use Rattle.krb_editors.specs.declared.removing.FilesSeen.{FilesSeen}
 use Rattle.krb_editors.specs.declared.removing.FilesSeen.TheVariants as seen
 
@@ -70,7 +70,7 @@ module _ {F R W E : Type 0} (trait : Ghosts F) (kind : FileKind) (names : List F
   pub record LooksAndRemoves (plan : FilesSeen → FileName → Option ℕ → CommandPlan) (after : FilesSeen → RunEnd → FilesSeen) : Type 0 where
     pub looked : World F R W E
     pub missing : Bool
-    pub looks : LooksFirst trait names old looked missing
+    pub looks : LooksIf trait names old looked missing (nat_lt 1 (length names))
     pub removes : RemovesUnless trait kind names looked new status plan after missing
 
   -- a run of removals took the world from `old` to `new` with this status; or it ended with the error `why`, as it needs the clock and the clock was not read

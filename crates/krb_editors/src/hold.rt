@@ -1,10 +1,10 @@
 //! hold: prints the image of a file to another program, and saves the one that this gives back.
 
-ghost use Rattle.std.specs.Prelude.{◌≡◌, ◌⊎◌, ◌∷◌, [], Err, MatchResult, Some, option_map};
+ghost use Rattle.std.specs.Prelude.{◌≡◌, ◌⊎◌, ◌∷◌, [], bytes_eq, Err, MatchResult, Some, option_map};
 ghost use Rattle.krb_driver.specs.declared.error.RunError.TheVariants.{NoMemory};
 ghost use Rattle.krb_driver.specs.Loading.{EndsLoads, result_map};
 ghost use Rattle.krb_files.specs.Files.{answer_of};
-ghost use Rattle.krb_editors.specs.Hold.{ChecksHold, EditsHeld, Exchanges, Receives, RunsHold, SavesOther, held_in};
+ghost use Rattle.krb_editors.specs.Hold.{ChecksHold, EditsHeld, Exchanges, Receives, RunsHold, SavesIf, held_in};
 ghost use Rattle.krb_editors.specs.HoldEnds.{end_of};
 
 mod frame;
@@ -119,7 +119,7 @@ fn save_other<'a, F: Files>(
     loaded: &[u8],
     image: &[u8],
 ) -> Result<Outcome, FileError<'a>>
-    ensures { SavesOther F.Files file.entry.name.now loaded.now files.old files.new (end_of result) image.now }
+    ensures { SavesIf F.Files file.entry.name.now loaded.now files.old files.new (end_of result) (bytes_eq image.now loaded.now) image.now }
 {
     if image == loaded {
         return Ok(Outcome::Left);

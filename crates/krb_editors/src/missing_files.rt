@@ -1,7 +1,7 @@
 //! Looks for several files before anything is done with one of them.
 
-ghost use Rattle.std.specs.Prelude.{◌≡◌};
-ghost use Rattle.krb_editors.specs.MissingFiles.{LooksAt, LooksFirst, LooksFor, is_missing, missing_error};
+ghost use Rattle.std.specs.Prelude.{◌≡◌, length, nat_lt};
+ghost use Rattle.krb_editors.specs.MissingFiles.{LooksAt, LooksIf, LooksFor, is_missing, missing_error};
 
 use krb_driver::{Details, ErrorOutput, FileName, RunError, World, report};
 use krb_files::{Files, Node};
@@ -65,7 +65,7 @@ pub fn is_one_missing<F: Files, R: Read, W: Write, E: Write>(
     names: &[FileName<'_>],
     world: &mut World<F, R, W, E>,
 ) -> bool
-    ensures { LooksFirst F.Files names.now world.old world.new result }
+    ensures { LooksIf F.Files names.now world.old world.new result (nat_lt 1 (length names.now)) }
 {
     names.len() > 1 && look_for_all(&world.files, names, &mut world.err)
 }

@@ -6,10 +6,10 @@ pub use Rattle.std.proofs.lemmas.Result.{err_from_is_err_and}
 pub use Rattle.std.specs.Io.KnownBytes.{Appends, IsAtEnd, Keeps, Consumes}
 pub use Rattle.std.specs.List.{cons_option, onto_first, filter_map}
 pub use Rattle.std.specs.Prelude.{slice_range, IfSome, max, ◌&&◌, IsFalse, ◌||◌, OnOk, filter, option_map, OnErr, ◌==◌, reverse, is_err}
-pub use Rattle.krb_ktutil.specs.InputLines.{is_newline, HasNone, Grows, lines_of, InputParts, IsFirst, IsWithin, IsSpent, CutsOff, HasNoMore, ReadsLine, with_newlines}
+pub use Rattle.krb_ktutil.specs.InputLines.{HasNone, Grows, lines_of, InputParts, IsFirst, IsWithin, IsSpent, CutsOff, HasNoMore, ReadsLine, with_newlines}
 pub use Rattle.krb_ktutil.specs.KtutilCommand.{Awaited, options_in, AwaitKey, asks_for_password, Command, WriteFile, after, command_of, ReadFile, with_option, columns_in, AddOptions, is_new_key, Skip, command_by, plain_columns, has_password, no_options, ClearList, ListSlots, Quit, DeleteSlot, awaited_by, verb_of, words, unindented, size_from, word_size, trimmed, parts_from, is_word, is_blank, asks_for_help, fault_error}
-pub use Rattle.krb_ktutil.specs.KtutilPlan.{line_effect, EndsAt, IsCame, Spares, MakesLine, Tries, RefusesAdded, Attempts, RunsOut, Comes, KtutilState, with_added, Added, none_added, plan_of, Came, line_faults, fails, with_key, after_fault, with_entries, LinePlan, saved_as, words_plan, plan_by, command_plan, written_to, reading_plan, writing_plan, awaited_entry, more_added, key_line}
-pub use Rattle.krb_ktutil.specs.KtutilTalk.{Prompts, prompt_of, last_prompt, PromptsOn, Talk, first_talk, goes_on, HandlesLine, TalksOver, AreFirst, EndsTalk, RunsKtutil, TalkDue, DueReport, ReportsDue, quiet_run, final_prompt, final_report, line_report, last_due, due_after, run_of, talk_due, GivesLines, LeavesDue, LeavesDueUnlessFailed, TalksHonestly, HandlesNext}
+pub use Rattle.krb_ktutil.specs.KtutilPlan.{line_effect, EndsAt, IsCame, Spares, MakesLine, Tries, RefusesAdded, Attempts, RunsOut, Comes, KtutilState, with_added, Added, none_added, plan_of, Came, line_faults, fails, with_key, after_fault, with_entries, LinePlan, saved_as, words_plan, plan_by, command_plan, written_to, writing_plan, awaited_entry, key_line}
+pub use Rattle.krb_ktutil.specs.KtutilTalk.{Prompts, prompt_of, PromptsOn, Talk, first_talk, goes_on, HandlesLine, TalksOver, AreFirst, EndsTalk, RunsKtutil, TalkDue, DueReport, ReportsDue, quiet_run, final_prompt, final_report, line_report, last_due, due_after, run_of, talk_due, GivesLines, LeavesDue, LeavesDueUnlessFailed, TalksHonestly, HandlesNext}
 pub use Rattle.krb_ktutil.specs.declared.ktutil.awaiting.Awaiting.{Awaiting}
 pub use Rattle.krb_ktutil.specs.declared.ktutil.awaiting.Awaiting.TheVariants.{Nothing, Password, Key}
 pub use Rattle.krb_driver.proofs.Shown.{end_status-none, Writes-nothing, ReportsEnd-nothing}

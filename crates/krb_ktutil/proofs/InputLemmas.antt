@@ -1,5 +1,5 @@
 -- Lines that were read from an input, which is split at newlines.
-use Rattle.krb_ktutil.proofs.Cited.{is_newline, false, onto_first, ◌≡◌, ℕ, ◌+◌, ◌-◌, ◌<◌, ◌≤◌, List, [], ◌∷◌, ◌++◌, length, take, drop, Option, Some, None, refl, sym, ap, subst, ◌∙◌, arith, length-append, append_assoc, append-nil, take-add, slice_range, lines_of, HasNone, Grows, drop-drop, Keeps, take-append-drop, take-take, IsFirst, inl, inr, IfSome, length-drop, nat_lt, IsAtEnd, take_all, take-append-le, drop_all, lt-ltb, InputParts, ReadsLine, AreFirst, nil_from_length, common_steps, Consumes-trans, true, Consumes, with_newlines, flat_map-append, IsSpent, IsWithin, HasNoMore, CutsOff, most_bytes, ◌⊎◌, false≢true, nat_tests}
+use Rattle.krb_ktutil.proofs.Cited.{◌==◌, false, onto_first, ◌≡◌, ℕ, ◌+◌, ◌-◌, ◌<◌, ◌≤◌, List, [], ◌∷◌, ◌++◌, length, take, drop, Option, Some, None, refl, sym, ap, subst, ◌∙◌, arith, length-append, append_assoc, append-nil, take-add, slice_range, lines_of, HasNone, Grows, drop-drop, Keeps, take-append-drop, take-take, IsFirst, inl, inr, IfSome, length-drop, nat_lt, IsAtEnd, take_all, take-append-le, drop_all, lt-ltb, InputParts, ReadsLine, AreFirst, nil_from_length, common_steps, Consumes-trans, true, Consumes, with_newlines, flat_map-append, IsSpent, IsWithin, HasNoMore, CutsOff, most_bytes, ◌⊎◌, false≢true, nat_tests}
 use Rattle.std.specs.List.{AllByRecursion}
 use Rattle.krb_wire.proofs.Lists.{all_front, all_join}
 use Rattle.std.proofs.lemmas.List.Folds.{drop_split}
@@ -29,7 +29,7 @@ parts_touch xs a b c p q =
     ∙ ap (λ (ys : List ℕ). slice_range xs a b ++ take (c - b) ys) (drop-drop (b - a) a xs ∙ ap (λ (n : ℕ). drop n xs) {x = a + (b - a)} {y = b} (omega (arith, p)))
 
 abbrev IsOther : ℕ → Type 0
-IsOther b = is_newline b ≡ false
+IsOther b = (b == 10) ≡ false
 
 -- no newline in a prefix, if there is none at all
 HasNone-take : (n : ℕ) (xs : List ℕ) → HasNone xs → HasNone (take n xs)

@@ -1,5 +1,5 @@
 -- A line was made by its plan, from its steps, and with the entries of a keytab.
-use Rattle.krb_ktutil.proofs.Cited.{◌≡◌, ◌∙◌, sym, ℕ, List, [], ◌∷◌, Option, Some, None, refl, ap, Result, Ok, Err, EntryParts, KeytabState, Code, Added, with_added, map, option_map, filter_map, cons_option, entry_at, store_of, entries, result_map, more_added, RefusesAdded, inl, inr, Bool, true, false, subst, false≢true, Ghosts, Ends, LineFault, words, Effect, Fails, Awaited, Awaiting, KtutilState, Came, plan_of, fails, line_faults, none_added, EndsAt, IsCame, line_effect, Answer, LoadsFile, Holds, Loads, by, has_type, EndsLoads, GivesOrIsSpent, AwaitKey, Command, WriteFile, after, asks_for_password, command_by, command_of, verb_of, LinePlan, after_fault, plan_by, command_plan, reading_plan, saved_as, with_entries, words_plan, writing_plan, written_to, Attempts, Comes, MakesLine, RunsOut, Tries, Record, records, Order, LineRefusal, Reads, RunError, fault_error}
+use Rattle.krb_ktutil.proofs.Cited.{◌≡◌, ◌∙◌, sym, ℕ, List, [], ◌∷◌, Option, Some, None, refl, ap, Result, Ok, Err, EntryParts, KeytabState, Code, Added, with_added, map, option_map, filter_map, cons_option, entry_at, store_of, entries, result_map, ◌++◌, RefusesAdded, inl, inr, Bool, true, false, subst, false≢true, Ghosts, Ends, LineFault, words, Effect, Fails, Awaited, Awaiting, KtutilState, Came, plan_of, fails, line_faults, none_added, EndsAt, IsCame, line_effect, Answer, LoadsFile, Holds, Loads, by, has_type, EndsLoads, GivesOrIsSpent, AwaitKey, Command, WriteFile, after, asks_for_password, command_by, command_of, verb_of, LinePlan, after_fault, plan_by, command_plan, saved_as, words_plan, writing_plan, written_to, Attempts, Comes, MakesLine, RunsOut, Tries, Record, records, LineRefusal, Reads, RunError, fault_error}
 use Rattle.krb_wire.specs.declared.format.KtFormat.{KtFormat}
 use Rattle.krb_keytab.specs.Find.{PlacedEntry, placed_entries}
 use Rattle.krb_keytab.specs.Changes.{put_result}
@@ -32,7 +32,7 @@ all_entries k = entries_placed k.format (records (store_of k))
 -- the refusal of the first entry is that of all entries
 pub refuses_added : (e : EntryParts) (es : List EntryParts) (x : Added) (k' : KeytabState) (r : Refusal) (all : Result Added Code) → PutGives (put_result x.keytab e) x.keytab (Err r) k' → with_added (e ∷ es) (Ok x) ≡ all → RefusesAdded all r
 refuses_added e es x k' (ByCode refused) all gives is =
-    sym is ∙ ap (λ (put : Result (ℕ × KeytabState) Code). with_added es (result_map (more_added x) put)) gives.0
+    sym is ∙ ap (λ (put : Result (ℕ × KeytabState) Code). with_added es (result_map (λ given. record { keytab = given.1; places = x.places ++ given.0 ∷ [] }) put)) gives.0
 refuses_added e es x k' NoMemory all gives is = tt
 
 -- ---- a line was made by its plan, from its steps

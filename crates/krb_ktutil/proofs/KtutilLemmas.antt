@@ -1,5 +1,5 @@
 -- The lines of ktutil, one after the other, and their prompts.
-use Rattle.krb_ktutil.proofs.Cited.{◌≡◌, ℕ, Bool, true, false, List, [], ◌++◌, refl, sym, Result, Ok, Err, false≢true, Watch, ErrorWatch, Prompts, OnOk, OnErr, is_err, IsFalse, Appends, AppendsPrefix, WritesOn, Writes-nothing, PromptsOn, inl, inr, ◌+◌, ◌<◌, ◌≤◌, ◌∷◌, length, length-append, subst, arith, max, not, ◌&&◌, Option, None, Some, Ghosts, input_error, error_status, Grows, Talk, first_talk, goes_on, HandlesLine, ◌≢◌, ◌||◌, Consumes, InputParts, HasNoMore, IsWithin, most_bytes, EndsTalk, TalksOver, prompt_of, last_prompt, Source, is_failed, Appends-trans, AppendsPrefix-after, AppendsPrefix-all, Order, LoadFault, HandlesNext, RunsKtutil, Details, nat_tests, ReportsEnd, ReadsLine, ◌∙◌, append_assoc, append-nil}
+use Rattle.krb_ktutil.proofs.Cited.{◌≡◌, ℕ, Bool, true, false, List, [], ◌++◌, refl, sym, Result, Ok, Err, false≢true, Watch, ErrorWatch, Prompts, OnOk, OnErr, is_err, IsFalse, Appends, AppendsPrefix, WritesOn, Writes-nothing, PromptsOn, inl, inr, ◌+◌, ◌<◌, ◌≤◌, ◌∷◌, length, length-append, subst, arith, max, not, ◌&&◌, Option, None, Some, Ghosts, input_error, error_status, Grows, Talk, first_talk, goes_on, HandlesLine, ◌≢◌, ◌||◌, Consumes, InputParts, HasNoMore, IsWithin, most_bytes, EndsTalk, TalksOver, prompt_of, Source, is_failed, Appends-trans, AppendsPrefix-after, AppendsPrefix-all, Order, LoadFault, HandlesNext, RunsKtutil, Details, nat_tests, ReportsEnd, ReadsLine, ◌∙◌, append_assoc, append-nil}
 use Rattle.krb_files.specs.declared.files.LoadFault.TheVariants.{Missing, TooLarge}
 use Rattle.krb_driver.specs.declared.command.World.{World}
 use Rattle.krb_ktutil.proofs.InputLemmas.{HasRead, HasRead-end, HasRead-first, HasRead-line, consumed, consumed_as, due_of, if_some}
@@ -98,7 +98,7 @@ module _ {F R W E : Type 0} (trait : Ghosts F) (prompts : Bool) (now : ℕ) (ord
   }
 
   -- the input has ended
-  pub RunsKtutil-after : (err' : ErrorWatch) → Prompts prompts (last_prompt talk.state.awaiting) talk.err err' → ReadsLine false old new last.left → last.failed ≡ world.input.failed → RunsKtutil trait order prompts now world (record { files = talk.files; input = last; out = talk.out; err = err' }) talk.status
+  pub RunsKtutil-after : (err' : ErrorWatch) → Prompts prompts (prompt_of talk.state.awaiting ++ 10 ∷ []) talk.err err' → ReadsLine false old new last.left → last.failed ≡ world.input.failed → RunsKtutil trait order prompts now world (record { files = talk.files; input = last; out = talk.out; err = err' }) talk.status
   RunsKtutil-after err' prompted reads well =
       runs (record talk { err = err' }) (inl (record { all = HasRead-end world.input.left left last.left u.lines old new u.within u.consumes grows reads u.has_read; well = well; prompted = prompted; same = refl }))
 

@@ -4,18 +4,14 @@ use Rattle.std.specs.List.{flat_map, onto_first, AllByRecursion}
 use Rattle.std.specs.Io.KnownBytes.{Consumes, IsAtEnd}
 use Rattle.krb_files.specs.Loading.{most_bytes}
 
--- a byte is a newline
-abbrev pub is_newline : ℕ → Bool
-is_newline b = b == 10
-
 -- no byte is a newline
 abbrev pub HasNone : List ℕ → Type 0
-HasNone bytes = AllByRecursion (λ b. is_newline b ≡ false) bytes
+HasNone bytes = AllByRecursion (λ b. (b == 10) ≡ false) bytes
 
 -- the lines of an input: the bytes before each newline, and those after the last newline, if there are any
 abbrev pub lines_of : List ℕ → List (List ℕ)
 lines_of [] = []
-lines_of (b ∷ bs) = if is_newline b then [] ∷ lines_of bs else onto_first b (lines_of bs)
+lines_of (b ∷ bs) = if b == 10 then [] ∷ lines_of bs else onto_first b (lines_of bs)
 
 -- an input as far as it was read: all those bytes, the last line read, and where the next one begins
 pub record InputParts : Type 0 where

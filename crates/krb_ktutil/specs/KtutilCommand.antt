@@ -141,10 +141,6 @@ on_file command words = after (λ name. Ok (command name)) (after file_word (onl
 abbrev pub slot_of : ℕ → ℕ → Result ℕ LineFault
 slot_of count slot = if nat_lt 0 slot && nat_le slot count then Ok slot else Err BadSlot
 
--- the deletion of the slot that the only word names
-abbrev pub deletion : ℕ → List (List ℕ) → Result Command LineFault
-deletion count words = after (λ slot. Ok (DeleteSlot slot)) (after (slot_of count) (after number_word (only words)))
-
 -- a command that has no words after it
 abbrev pub alone : Command → List (List ℕ) → Result Command LineFault
 alone command words = if are_none words then Ok command else Err WordCount
@@ -211,7 +207,7 @@ command_by count (Some verb.List) words = listing words
 command_by count (Some verb.Read) words = on_file ReadFile words
 command_by count (Some verb.Write) words = on_file WriteFile words
 command_by count (Some verb.Add) words = addition words
-command_by count (Some verb.Delete) words = deletion count words
+command_by count (Some verb.Delete) words = after (λ slot. Ok (DeleteSlot slot)) (after (slot_of count) (after number_word (only words)))
 command_by count (Some verb.Clear) words = alone ClearList words
 command_by count (Some verb.Quit) words = alone Quit words
 

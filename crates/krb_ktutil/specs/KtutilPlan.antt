@@ -6,7 +6,7 @@ use Rattle.krb_walk.specs.declared.refusal.Code.TheVariants as code
 use Rattle.krb_walk.specs.Store.{fault_of}
 use Rattle.krb_keytab.specs.Entry.{EntryParts}
 use Rattle.krb_keytab.specs.Store.{KeytabState, image_of, store_of, entries}
-use Rattle.krb_keytab.specs.Find.{PlacedEntry, placed_entries}
+use Rattle.krb_keytab.specs.Find.{placed_entries}
 use Rattle.krb_keytab.specs.Changes.{put_result}
 use Rattle.krb_files.specs.Plan.{Plan, Ends, Holds, Loads, Faults, Loaded, by}
 use Rattle.krb_text.specs.declared.line_fault.LineFault.{LineFault}
@@ -97,28 +97,19 @@ pub record Added : Type 0 where
   pub keytab : KeytabState
   pub places : List ℕ
 
--- the verdict of `write_kt`, with the place from which on MIT's programs see no entry, if they miss one
-abbrev pub verdict_by : List PlacedEntry → Option ℕ → Verdict
-verdict_by [] hidden = NoEntry
-verdict_by (entry ∷ others) hidden = hiding hidden Well
-
 -- the verdict of `wkt`: well, no entry, or an added entry hidden from MIT's programs from a place on
 abbrev pub saved_verdict : Added → Verdict
-saved_verdict x = verdict_by (placed_entries x.keytab) (hides_added x.keytab x.places)
+saved_verdict x = if length (placed_entries x.keytab) == 0 then NoEntry else hiding (hides_added x.keytab x.places) Well
 
 -- a keytab before the first addition
 abbrev pub none_added : KeytabState → Added
 none_added k = record { keytab = k; places = [] }
 
--- a keytab after one addition more, at a place
-abbrev pub more_added : Added → ℕ × KeytabState → Added
-more_added x given = record { keytab = given.1; places = x.places ++ given.0 ∷ [] }
-
 -- a keytab with entries added one after the other, or the first refusal
 abbrev pub with_added : List EntryParts → Result Added Code → Result Added Code
 with_added es (Err refused) = Err refused
 with_added [] (Ok x) = Ok x
-with_added (e ∷ es) (Ok x) = with_added es (result_map (more_added x) (put_result x.keytab e))
+with_added (e ∷ es) (Ok x) = with_added es (result_map (λ given. record { keytab = given.1; places = x.places ++ given.0 ∷ [] }) (put_result x.keytab e))
 
 -- the keytab is saved under the name, or the line ends with the refusal
 abbrev pub saved_as : KtutilState → ℕ → List ℕ → Result Added Code → Came
@@ -147,10 +138,6 @@ with_key s number line x now (Err fault) = fails (record s { awaiting = Nothing 
 
 -- ---- a line
 
--- the entries of a file are appended to the list
-abbrev pub reading_plan : KtutilState → ℕ → List ℕ → LinePlan
-reading_plan s number name = Loads name (λ answer. Ends (with_entries s number name (keytab_in s.order answer)))
-
 -- the list is added to the keytab of a file
 abbrev pub writing_plan : KtutilState → ℕ → List ℕ → LinePlan
 writing_plan s number name = Loads name (λ answer. Ends (written_to s number name (keytab_or_empty s.order false answer)))
@@ -164,7 +151,7 @@ abbrev pub command_plan : KtutilState → ℕ → Command → LinePlan
 command_plan s number Skip = Ends (becomes s)
 command_plan s number (ListSlots columns) = Ends (record (prints s (slot_text columns s.entries)) { takes = true })
 command_plan s number (ReadFile word) =
-    if is_other_type Keytab word then Ends (fails s (bare_name Keytab word) (error.OtherType Keytab Word)) else reading_plan s number (bare_name Keytab word)
+    if is_other_type Keytab word then Ends (fails s (bare_name Keytab word) (error.OtherType Keytab Word)) else Loads (bare_name Keytab word) (λ answer. Ends (with_entries s number (bare_name Keytab word) (keytab_in s.order answer)))
 command_plan s number (WriteFile word) =
     if has_type word then Ends (fails s word error.TypedName) else Holds true word (writing_plan s number word)
 command_plan s number (AwaitKey awaited) = Ends (grows_to (record s { awaiting = Key awaited }))

@@ -28,10 +28,6 @@ prompt_of Nothing = codes "ktutil: "
 prompt_of (Key x) = key_prompt x.principal
 prompt_of Password = codes "password (not used): "
 
--- the prompt at the end of the input: a newline follows
-abbrev pub last_prompt : Awaiting Awaited → List ℕ
-last_prompt awaiting = prompt_of awaiting ++ 10 ∷ []
-
 -- a prompt was written, from the error output `err` to `err'`, if there are prompts
 abbrev pub Prompts : Bool → List ℕ → ErrorWatch → ErrorWatch → Type 0
 Prompts true prompt old new = Writes old.to new.to prompt × (new.explains ≡ old.explains)
@@ -103,7 +99,7 @@ module _ {F : Type 0} (trait : Ghosts F) (now : ℕ) where
       pub record EndsAfterLines : Type 0 where
         pub all : IfSome input.left (λ bytes. lines_of bytes ≡ lines)
         pub well : input'.failed ≡ input.failed
-        pub prompted : Prompts prompts (last_prompt last.state.awaiting) last.err end.err
+        pub prompted : Prompts prompts (prompt_of last.state.awaiting ++ 10 ∷ []) last.err end.err
         pub same : end ≡ record last { err = end.err }
 
       -- a line of ktutil more was run after its prompt, and it was the last
@@ -154,10 +150,6 @@ pub record TalkDue : Type 0 where
   pub out : List ℕ
   pub reported : List DueReport
 
--- the report that is due for a line of ktutil
-abbrev pub report_of : List ℕ → List ℕ → Option ℕ → Run → DueReport
-report_of prompt file line run = record { prompt = prompt; file = file; line = line; ending = run.ending }
-
 -- what is due of a line of ktutil that is the last
 abbrev pub last_due : List ℕ → DueReport → FileMap → TalkDue
 last_due out report files = record { files = files; out = out; reported = report ∷ [] }
@@ -168,12 +160,12 @@ due_after out report due = record { files = due.files; out = out ++ due.out; rep
 
 -- the prompt after all lines of ktutil, with a newline at the end of the input
 abbrev pub final_prompt : Awaiting Awaited → Ending → List ℕ
-final_prompt awaiting (Ok verdict) = last_prompt awaiting
+final_prompt awaiting (Ok verdict) = prompt_of awaiting ++ 10 ∷ []
 final_prompt awaiting (Err error) = prompt_of awaiting
 
 -- the report after all lines
 abbrev pub final_report : Awaiting Awaited → Run → DueReport
-final_report awaiting run = report_of (final_prompt awaiting run.ending) [] None run
+final_report awaiting run = record { prompt = final_prompt awaiting run.ending; file = []; line = None; ending = run.ending }
 
 -- what an effect prints, and how the run ends, if no call fails
 abbrev pub run_of : Effect → Run
@@ -183,7 +175,7 @@ run_of (Saves file bytes out verdict) = record { out = out; ending = Ok verdict 
 
 -- the report of the effect of ktutil's line, after its prompt
 abbrev pub line_report : Awaiting Awaited → ℕ → Effect → DueReport
-line_report awaiting number effect = report_of (prompt_of awaiting) (about effect) (Some number) (run_of effect)
+line_report awaiting number effect = record { prompt = prompt_of awaiting; file = about effect; line = Some number; ending = (run_of effect).ending }
 
 -- what is due of lines of ktutil, run in order from a number on, up to one that is the last; `final` is due after all of them
 abbrev pub talk_due : Run → ℕ → ℕ → List (List ℕ) → KtutilState → FileMap → TalkDue

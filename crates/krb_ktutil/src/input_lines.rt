@@ -1,6 +1,6 @@
 //! Reads lines from a reader, each as soon as its end is read.
 
-ghost use Rattle.std.specs.Prelude.{◌≡◌, ◌≢◌, ◌⊎◌, ◌||◌, ◌<◌, ◌≤◌, ◌+◌, [], length, slice_range, IfOk, IfErr, IfSome, OnErr, IsErrOf, vec_len};
+ghost use Rattle.std.specs.Prelude.{◌≡◌, ◌≢◌, ◌||◌, ◌<◌, ◌≤◌, ◌+◌, [], length, slice_range, IfOk, IfErr, IfSome, OnErr, IsErrOf, vec_len};
 ghost use Rattle.krb_files.specs.Bytes.{is_read_fault};
 ghost use Rattle.krb_files.specs.Loading.{most_bytes};
 ghost use Rattle.krb_ktutil.specs.InputLines.{InputParts, ReadsLine, Grows, IsWithin, FindsNewline, EndsLine, HasNoMore, HasNone};

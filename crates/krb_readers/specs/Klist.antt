@@ -203,14 +203,10 @@ module _ {F : Type 0} (trait : Ghosts F) (file : FileName) (old new : F) (status
     pub loads : LoadsFile trait old file.name.now answer new
     pub status_is : status ≡ check_status time answer
 
-  -- a file whose name has a type that is not read was not loaded, and the status is 1
-  abbrev pub ChecksNothing : Type 0
-  ChecksNothing = (file.is_other_type ≡ true) × (new ≡ old) × (status ≡ 1)
-
   -- a run of `klist -s` at a second of the clock took the files from `old` to `new` with this status; if the clock was not read nothing is loaded
   abbrev pub RunsTicketCheck : TicketCheck → Option ℕ → Type 0
   RunsTicketCheck check None = (new ≡ old) × (status ≡ 3)
-  RunsTicketCheck check (Some now) = ChecksNothing ⊎ ((file.is_other_type ≡ false) × LoadsAndChecks (now + check.seconds))
+  RunsTicketCheck check (Some now) = ((file.is_other_type ≡ true) × (new ≡ old) × (status ≡ 1)) ⊎ ((file.is_other_type ≡ false) × LoadsAndChecks (now + check.seconds))
 
 -- ---- what the words ask for
 

@@ -40,10 +40,6 @@ abbrev pub found_verdict : KeytabCheck → FindingSet → CheckParts → Verdict
 found_verdict o explained c =
     Found (record { words = without (findings_of c) (joined (left_out o c) explained); weak_etypes = c.weak_etypes; fault = c.fault; is_wrong = is_wrong o.allowed c; v1_order = o.v1_order })
 
--- the lines of ktcheck begin with the name of the file: if there are several files, or by `-H`
-abbrev pub has_names : KeytabCheck → Bool → Bool
-has_names o are_several = o.with_filename || are_several
-
 -- what ktcheck finds in a keytab, by its options, the time by which entries are aged and the mode of the file
 abbrev pub found : KeytabCheck → Option ℕ → Option ℕ → KeytabState → CheckParts
 found o aged_by mode k = checked mode aged_by o.wanted k
@@ -51,10 +47,6 @@ found o aged_by mode k = checked mode aged_by o.wanted k
 -- the lines of ktcheck for a file, each after a label
 abbrev pub lines_of : KeytabCheck → List ℕ → CheckParts → List ℕ
 lines_of o label c = if is_silent o c then [] else report label (left_out o c) c
-
--- what ktcheck prints of a keytab as lines
-abbrev pub lines_page : KeytabCheck → Bool → FindingSet → List ℕ → CheckParts → Page
-lines_page o are_several explained file c = text (lines_of o (label_of (has_names o are_several) file) c) (found_verdict o explained c)
 
 -- what ktcheck prints of a keytab as one JSON object, which has all findings
 abbrev pub object_page : KeytabCheck → FindingSet → List ℕ → CheckParts → Page
@@ -66,7 +58,7 @@ object_page o explained file c = record {
 
 -- what ktcheck prints of a keytab: a JSON object, or lines
 abbrev pub page_of : KeytabCheck → Bool → FindingSet → List ℕ → CheckParts → Page
-page_of o are_several explained file c = if o.json then object_page o explained file c else lines_page o are_several explained file c
+page_of o are_several explained file c = if o.json then object_page o explained file c else text (lines_of o (label_of (o.with_filename || are_several) file) c) (found_verdict o explained c)
 
 -- what ktcheck prints with `--json` of a file that gave no keytab
 abbrev pub refused_page : List ℕ → RunError → Page
@@ -121,7 +113,3 @@ module _ {F R W E : Type 0} (trait : Ghosts F) (o : KeytabCheck) (old new : Worl
   abbrev pub ChecksWith : Result (Option ℕ) RunError → Type 0
   ChecksWith (Ok by) = ChecksBy by
   ChecksWith (Err why) = EndsBefore trait old new status why
-
--- a run of ktcheck at a second of the clock took the world from `old` to `new` with this status
-abbrev pub ChecksAll : {F R W E : Type 0} → Ghosts F → KeytabCheck → Option ℕ → World F R W E → World F R W E → ℕ → List FileName → Type 0
-ChecksAll trait o now old new status names = ChecksWith trait o old new status names (aged_by o.older now)

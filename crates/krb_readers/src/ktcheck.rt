@@ -6,7 +6,7 @@ pub(crate) mod words;
 ghost use Rattle.std.specs.Prelude.{◌≡◌};
 ghost use Rattle.krb_driver.specs.Commands.{Displays, IsMade};
 ghost use Rattle.krb_driver.specs.Composing.{made_effect};
-ghost use Rattle.krb_readers.specs.Ktcheck.{ChecksAll, aged_by, check_page, explained_after, explained_by, file_page, found, page_of, plan_of};
+ghost use Rattle.krb_readers.specs.Ktcheck.{ChecksWith, aged_by, check_page, explained_after, explained_by, file_page, found, page_of, plan_of};
 
 use crate::file_page::{FilePage, refused};
 use crate::ktcheck::page::{CheckObject, check_lines};
@@ -118,7 +118,7 @@ pub fn run_ktcheck<A: Allocator + Copy, B: Allocator, F: Files, R: Read, W: Writ
     names: &[FileName<'_>],
     world: &mut World<F, R, W, E>,
 ) -> u8
-    ensures { ChecksAll F.Files options.now now world.old world.new result names.now }
+    ensures { ChecksWith F.Files options.now world.old world.new result names.now (aged_by options.now.older now) }
 {
     let command = match aged_by(options.older, now) {
         Ok(aged_by) => CheckFiles {

@@ -2,7 +2,7 @@
 
 ghost use Rattle.std.specs.Prelude.{◌≡◌, ◌++◌, codes, option_map};
 ghost use Rattle.krb_driver.specs.FileNames.{shown_name};
-ghost use Rattle.krb_driver.specs.Messages.{phrase_line, words_line, piece_text, pieces_text};
+ghost use Rattle.krb_driver.specs.Messages.{words_line, pieces_text};
 ghost use Rattle.krb_driver.specs.EndingWords.{cause_words, error_words, fault_with, line_fault_phrase, listed_words, clash_words, unknown_words, verdict_words, way_words};
 
 use crate::error::RunError;

@@ -1,6 +1,6 @@
 //! Writes each message in one write, if it fits.
 
-ghost use Rattle.std.specs.Prelude.{◌≡◌, [], ◌++◌, if◌then◌else◌};
+ghost use Rattle.std.specs.Prelude.{◌≡◌, [], if◌then◌else◌};
 ghost use Rattle.std.specs.List.{flat_map};
 ghost use Rattle.krb_driver.specs.Messages.{byte_text, hidden_word, piece_text, pieces_text, quoted_word, shown_word};
 ghost use Rattle.krb_driver.specs.Runs.{Adds, Sends, Writes};

@@ -5,9 +5,8 @@ ghost use Rattle.krb_driver.specs.Messages.{piece_text, pieces_text};
 ghost use Rattle.krb_editors.specs.HoldEnds.{TellsEnd, cause_name_or, end_of, last_line, why_failed};
 
 use krb_driver::MessagePiece::{self, Number, Text};
-use krb_driver::{FileError, RunError, write_pieces};
+use krb_driver::{FileError, RunError, Said, write_pieces};
 use krb_files::{Aftermath, Cause, Watched};
-use krb_walk::Code;
 use std::io::Write;
 
 /// What a run without an error did with the file.
@@ -37,15 +36,12 @@ fn cause_name_or(cause: Option<Cause>) -> &'static str
 fn why_failed(error: RunError, cause: Option<Cause>) -> MessagePiece<'static>
     ensures { piece_text result ≡ why_failed error cause }
 {
-    match error {
-        RunError::NotOpened(why) => Number(10 + u64::from(why.fault.number())),
-        RunError::Refused(_, code) => Number(30 + u64::from(code.number())),
-        RunError::DamagedInput(_) => Number(30 + u64::from(Code::Damaged.number())),
-        RunError::NoSuchFile(_) | RunError::OtherType(..) => Text("ENOENT"),
-        RunError::FileTooLarge | RunError::InputTooLarge => Text("EFBIG"),
-        RunError::InputNotWhole => Text("EBADMSG"),
-        RunError::NoMemory => Text("ENOMEM"),
-        _ => Text(cause_name_or(cause)),
+    let row = error.row();
+    match row.said {
+        Said::NotOpened(fault) => Number(10 + u64::from(fault.number())),
+        Said::Refused(code) => Number(30 + u64::from(code.number())),
+        _ if row.name.is_empty() => Text(cause_name_or(cause)),
+        _ => Text(row.name),
     }
 }
 

@@ -4,7 +4,8 @@ mod additions;
 mod transfer;
 
 ghost use Rattle.std.specs.Prelude.{Some, ◌≡◌, [], ℕ, length};
-ghost use Rattle.krb_ktutil.specs.KtutilCommand.{words, ClearList, Quit, alone, asks_for_password, listing, deletion, command_by, command_of};
+ghost use Rattle.krb_ktutil.specs.declared.ktutil.verb.Verb.TheVariants as verb;
+ghost use Rattle.krb_ktutil.specs.KtutilCommand.{words, ClearList, Quit, alone, asks_for_password, listing, command_by, command_of};
 ghost use Rattle.krb_ktutil.specs.KtutilPlan.{KtutilState, after_fault, is_pending, plan_of, words_plan, Attempts, MakesLine, Spares, Tries, line_effect};
 ghost use Rattle.krb_ktutil.specs.KtutilTalk.{prompt_of};
 
@@ -87,7 +88,7 @@ impl<A: Allocator + Copy> Ktutil<A> {
 
     // Deletes a slot.
     fn delete<'l>(&mut self, rest: &[u8]) -> Result<Line<'l, A>, LineRefusal>
-        ensures { (number : ℕ) → Attempts self.old number (deletion (length self.old.entries) (words rest.now)) self.new result }
+        ensures { (number : ℕ) → Attempts self.old number (command_by (length self.old.entries) (Some verb.Delete) (words rest.now)) self.new result }
     {
         let slot = slot(rest, self.entries.len())?;
         let _ = self.entries.remove(slot as usize - 1);

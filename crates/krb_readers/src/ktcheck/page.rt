@@ -2,7 +2,7 @@
 
 ghost use Rattle.std.specs.Prelude.{◌≡◌, ◌++◌, IfOk, OnOk};
 ghost use Rattle.krb_driver.specs.Composing.{output_page};
-ghost use Rattle.krb_readers.specs.Ktcheck.{check_page, found, found_verdict, is_silent, left_out, lines_of, lines_page};
+ghost use Rattle.krb_readers.specs.Ktcheck.{check_page, found, found_verdict, is_silent, left_out, lines_of};
 
 use crate::ktcheck::words::CheckOptions;
 use krb_audit::{CheckUp, append_report, check_up};
@@ -89,8 +89,8 @@ pub fn check_lines<A: Allocator + Copy, B: Allocator>(
     are_several: bool,
     file: FileName<'_>,
 ) -> Result<Output<A>, NoMemory>
-    ensures { IfOk result (λ output. output_page output ≡ lines_page object.now.options.now are_several object.now.explained file.entry.name.now
-        (found object.now.options.now object.now.aged_by object.now.mode object.now.keytab.state)) }
+    ensures { IfOk result (λ output. output_page output ≡ page_of (record object.now.options.now { json = false }) are_several object.now.explained
+        file.entry.name.now (found object.now.options.now object.now.aged_by object.now.mode object.now.keytab.state)) }
 {
     let options = object.options;
     let label = label_of(alloc, options.with_filename || are_several, file)?;
