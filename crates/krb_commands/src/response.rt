@@ -1,6 +1,6 @@
 //! Runs the action of a command line.
 
-ghost use Rattle.std.specs.Prelude.{◌≡◌, slice_get};
+ghost use Rattle.std.specs.Prelude.{◌≡◌};
 ghost use Rattle.krb_commands.specs.Actions.{ChecksTickets, EndsAction, EndsParsed, file_or, files_or};
 ghost use Rattle.krb_driver.specs.Loading.{result_map};
 
@@ -48,18 +48,17 @@ fn files_or<'n, 'a>(
     }
 }
 
-// Checks the tickets of the first file, or else of the default. Prints nothing but a bad command line.
+// Checks the tickets of a file. Prints nothing but a bad command line.
 fn check_tickets<A: Allocator + Copy, F: Files, R: Read, W: Write, E: Write>(
     alloc: A,
     check: TicketCheck,
     now: Option<u32>,
-    names: &[FileName<'_>],
-    default: DefaultName<'_>,
+    file: DefaultName<'_>,
     world: &mut World<F, R, W, E>,
 ) -> u8
-    ensures { ChecksTickets F.Files world.old world.new result check now (file_or (slice_get names.now 0) default.entry) }
+    ensures { ChecksTickets F.Files world.old world.new result check now file.entry }
 {
-    match file_or(names.first().copied(), default) {
+    match file {
         Ok(file) => run_ticket_check(alloc, check, now, file, &mut world.files),
         Err(WordFault::NoMemory) => 4,
         Err(fault) => report_word_fault(fault, &mut world.err),
@@ -86,7 +85,8 @@ fn run_action<A: Allocator + Copy, F: Files, R: Read, W: Write, E: Write>(
             Err(fault) => report_word_fault(fault, &mut world.err),
         },
         Action::CheckTicket(check, names) => {
-            check_tickets(alloc, *check, now, names, default, world)
+            let file = file_or(names.first().copied(), default);
+            check_tickets(alloc, *check, now, file, world)
         }
         Action::Ktfind(options, file) => run_ktfind(alloc, options, *file, world),
         Action::Ktedit(v1_order, file) => run_ktedit(alloc, *v1_order, *file, world),

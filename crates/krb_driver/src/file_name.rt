@@ -1,6 +1,6 @@
 //! The names of files: an operand may begin with a type, as in `FILE:/etc/krb5.keytab`.
 
-ghost use Rattle.std.specs.Prelude.{◌≡◌, ◌<◌, ◌++◌, IfSome, OnOk, false, length, option_copied, option_map};
+ghost use Rattle.std.specs.Prelude.{◌==◌, ◌≡◌, ◌<◌, ◌++◌, IfSome, OnOk, false, length, option_copied, option_map};
 ghost use Rattle.std.specs.List.{list_any, position_from};
 ghost use Rattle.krb_driver.specs.FileNames.{IsNamed, has_type, is_no_letter, is_type, name_byte, shown_name, stripped, type_of, untyped, without_own};
 

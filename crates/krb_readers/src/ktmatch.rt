@@ -6,7 +6,7 @@ mod state;
 mod verdict;
 pub(crate) mod words;
 
-ghost use Rattle.std.specs.Prelude.{◌≡◌, IfOk, OnErr};
+ghost use Rattle.std.specs.Prelude.{◌≡◌};
 ghost use Rattle.krb_driver.specs.Commands.{GivesOf};
 ghost use Rattle.krb_driver.specs.Composing.{opened};
 ghost use Rattle.krb_driver.specs.Loading.{whole_in};
@@ -138,42 +138,18 @@ fn end_matches<F: Files, R: Read, W: Write, E: Write>(
     ran.status.max(status)
 }
 
-// Matches the tickets of caches with a keytab, and returns the exit status.
+// Matches the tickets of caches, and returns the exit status.
 fn match_with<A: Allocator + Copy, B: Allocator, F: Files, R: Read, W: Write, E: Write>(
     alloc: A,
-    options: &MatchOptions<B>,
-    keytab: &str,
-    matcher: &Matcher<'_, A>,
+    command: &MatchFiles<'_, '_, A, B>,
     names: &[FileName<'_>],
     world: &mut World<F, R, W, E>,
 ) -> u8
-    ensures { MatchesCaches F.Files options.now keytab.now matcher.now names.now world.old world.new result }
+    ensures { command.now.are_several ≡ nat_lt 1 (length names.now)
+        → MatchesCaches F.Files command.now.options.now command.now.keytab.now command.now.matcher.now names.now world.old world.new result }
 {
-    let command = MatchFiles {
-        options,
-        keytab,
-        matcher,
-        are_several: names.len() > 1,
-    };
-    let ran = match_caches(alloc, &command, names, world);
-    end_matches(sought(options), names, ran, world)
-}
-
-// Matches the tickets of caches with a keytab that was loaded, and returns the exit status.
-fn match_all<A: Allocator + Copy, B: Allocator, F: Files, R: Read, W: Write, E: Write>(
-    alloc: A,
-    options: &MatchOptions<B>,
-    keytab: &str,
-    opened: &Keytab<A>,
-    names: &[FileName<'_>],
-    world: &mut World<F, R, W, E>,
-) -> Result<u8, NoMemory>
-    ensures matched { IfOk result (MatchesCaches F.Files options.now keytab.now (opened.now.state, world.old.err.explains) names.now world.old world.new) }
-    ensures spent { OnErr result (world.new ≡ world.old) }
-{
-    let entry_names = EntryNames::of(alloc, opened, world.err.explains)?;
-    let matcher = Matcher::of(alloc, opened, &entry_names)?;
-    Ok(match_with(alloc, options, keytab, &matcher, names, world))
+    let ran = match_caches(alloc, command, names, world);
+    end_matches(sought(command.options), names, ran, world)
 }
 
 // Loads the keytab, which is to have no damage.
@@ -205,10 +181,19 @@ pub fn run_ktmatch<A: Allocator + Copy, B: Allocator, F: Files, R: Read, W: Writ
         Ok(opened) => opened,
         Err(met) => return end_by(alloc, met, world),
     };
-    match match_all(alloc, options, keytab.name, &opened, names, world) {
-        Ok(status) => status,
-        Err(_) => end_by(alloc, SPENT, world),
-    }
+    let Ok(entry_names) = EntryNames::of(alloc, &opened, world.err.explains) else {
+        return end_by(alloc, SPENT, world);
+    };
+    let Ok(matcher) = Matcher::of(alloc, &opened, &entry_names) else {
+        return end_by(alloc, SPENT, world);
+    };
+    let command = MatchFiles {
+        options,
+        keytab: keytab.name,
+        matcher: &matcher,
+        are_several: names.len() > 1,
+    };
+    match_with(alloc, &command, names, world)
 }
 
 /// The lines of a cache among several are those of the cache alone, each after its name.

@@ -46,23 +46,24 @@ fn append_view<A: Allocator + Copy>(
     }
 }
 
-// Appends the block of a file: an empty line, if it is after another one, and what is shown of the file.
-fn append_block<A: Allocator + Copy>(
+// Returns the block of a file: an empty line, if it is after another one, and what is shown of the file.
+fn block_of<A: Allocator + Copy>(
     alloc: A,
     now: u32,
     is_after: bool,
     file: &str,
     of: &Contents<A>,
-    out: &mut Vec<u8, A>,
-) -> Result<(), NoMemory>
-    ensures { OnOk result (out.new.items ≡ out.old.items ++ block now is_after file.now (state_of of.now)) }
+) -> Result<Vec<u8, A>, NoMemory>
+    ensures { IfOk result (λ text. text.items ≡ block now is_after file.now (state_of of.now)) }
 {
+    let mut text = Vec::new(alloc);
     if is_after {
-        append(b"\n", out)?;
+        append(b"\n", &mut text)?;
     }
     let mut name = Vec::new(alloc);
     append_name(file.as_bytes(), &mut name)?;
-    append_view(alloc, &name, now, of, out)
+    append_view(alloc, &name, now, of, &mut text)?;
+    Ok(text)
 }
 
 // Returns the verdict of a file, whose block reports the fault if there is one.
@@ -85,8 +86,7 @@ fn shown<'a, A: Allocator + Copy>(
 ) -> Result<Made<A, Output<A>>, FileError<'a>>
     ensures { IsMade (shows now is_after file.now (state_of of)) (text_effect file.now result) }
 {
-    let mut text = Vec::new(alloc);
-    append_block(alloc, now, is_after, file, &of, &mut text)?;
+    let text = block_of(alloc, now, is_after, file, &of)?;
     let verdict = verdict_of(&of);
     Ok(Made::Shows(Output { text, verdict }))
 }

@@ -117,23 +117,28 @@ fn append_blanks<A: Allocator>(count: usize, out: &mut Vec<u8, A>) -> Result<(),
     Ok(out.resize(len, b' ')?)
 }
 
-// Appends a cell behind some blanks. Returns how many are before the next.
+// Appends a cell behind some blanks, and returns its length.
 fn append_behind<A: Allocator + Copy, R: Row<A>>(
     alloc: A,
     blanks: usize,
     column: usize,
-    width: usize,
     row: &R,
     out: &mut Vec<u8, A>,
 ) -> Result<usize, NoMemory>
     ensures text { OnOk result (out.new.items ≡ out.old.items ++ (replicate blanks 32 ++ cell_of column (R.cells row.now))) }
-    ensures next { IfOk result (λ next. next ≡ width - length (cell_of column (R.cells row.now)) + 2) }
+    ensures len { IfOk result (λ len. len ≡ length (cell_of column (R.cells row.now))) }
 {
     append_blanks(blanks, out)?;
     let start = out.len();
     row.append_cell(alloc, column, out)?;
-    let left = width.saturating_sub(out.len() - start);
-    left.checked_add(2).ok_or(NoMemory)
+    Ok(out.len() - start)
+}
+
+// Returns how many blanks are between a cell of that length and the next.
+fn blanks_after(width: usize, len: usize) -> Result<usize, NoMemory>
+    ensures { IfOk result (λ blanks. blanks ≡ width - len + 2) }
+{
+    width.saturating_sub(len).checked_add(2).ok_or(NoMemory)
 }
 
 // Appends the cells of a row in their columns.
@@ -150,7 +155,8 @@ fn append_cells<A: Allocator + Copy, R: Row<A>>(
         if column >= widths.len() {
             return Ok(());
         }
-        blanks = append_behind(alloc, blanks, column, widths[column], row, out)?;
+        let len = append_behind(alloc, blanks, column, row, out)?;
+        blanks = blanks_after(widths[column], len)?;
     }
     Ok(())
 }

@@ -1,6 +1,6 @@
 //! The lines of a keytab's table: one for each name and version.
 
-ghost use Rattle.std.specs.Prelude.{◌≡◌, ◌+◌, ◌++◌, ◌∷◌, ℕ, List, IfOk, OnOk, Some, length};
+ghost use Rattle.std.specs.Prelude.{◌≡◌, ◌+◌, ◌++◌, ◌∷◌, List, IfOk, OnOk, Some, length};
 ghost use Rattle.krb_wire.specs.Names.{name_text};
 ghost use Rattle.krb_keytab.specs.Entry.{entry_at};
 ghost use Rattle.krb_keytab.specs.Find.{PlacedEntry, placed_entries};
@@ -44,6 +44,18 @@ impl<'a, A: Allocator> Model for Line<'a, A> {
 pub type Lines<'a, A> = BTreeMap<LineKey, Line<'a, A>, A>;
 
 impl<'a, A: Allocator> Line<'a, A> {
+    // Returns a line for the name of a record, without an entry.
+    fn of(alloc: A, format: KtFormat, record: &'a [u8]) -> Line<'a, A>
+        ensures { result ≡ record { principal = principal_in format record.now; added = 0; etypes = [] } }
+    {
+        Line {
+            record,
+            format,
+            added: 0,
+            etypes: Vec::new(alloc),
+        }
+    }
+
     // Adds the time and the enctype of an entry.
     fn add(&mut self, timestamp: u32, etype: u16) -> Result<(), NoMemory>
         ensures { OnOk result (self.new ≡ grown self.old timestamp etype) }
@@ -65,25 +77,17 @@ impl<'a, A: Allocator> Line<'a, A> {
     }
 }
 
-// Adds the entry of a record to the line with its key.
+// Adds an entry to the line with its key, or to one that is begun for its name.
 fn put_entry<'a, A: Allocator + Copy>(
-    alloc: A,
     key: LineKey,
-    format: KtFormat,
-    record: &'a [u8],
+    begun: Line<'a, A>,
     entry: &EntryView<'_>,
     lines: &mut Lines<'a, A>,
 ) -> Result<(), NoMemory>
-    ensures { entry_at format record.now ≡ Some entry.now
+    ensures { begun ≡ record { principal = entry.now.principal; added = 0; etypes = [] }
         → OnOk result (lines.new.entries ≡ put_entry key entry.now lines.old.entries) }
 {
     let (timestamp, etype) = (entry.timestamp(), entry.enctype());
-    let begun = Line {
-        record,
-        format,
-        added: 0,
-        etypes: Vec::new(alloc),
-    };
     lines.entry(key)?.or_insert(begun).add(timestamp, etype)?;
     Ok(())
 }
@@ -132,7 +136,12 @@ impl<'a, A: Allocator + Copy> SoFar<'a, A> {
         let number = next_number(&mut self.rows);
         let is_old = next_mark(&mut self.are_old);
         let key = (number, is_old, Reverse(entry.kvno()));
-        put_entry(alloc, key, format, record, &entry, &mut self.lines)
+        put_entry(
+            key,
+            Line::of(alloc, format, record),
+            &entry,
+            &mut self.lines,
+        )
     }
 }
 

@@ -18,7 +18,7 @@ ghost use Rattle.krb_c.specs.Status.{kind_number, Adds, Changes, Rewrites};
 ghost use Rattle.krb_c.specs.CacheStore.{Stores, new_credential_of};
 
 use crate::cache::changes::{KrbfNumbers, NewCredential, store};
-use crate::cache::looks::{KrbfTicket, config, copy_name_at, find, look_at};
+use crate::cache::looks::{KrbfTicket, config, copy_client_at, copy_server_at, find, look_at};
 use crate::handle::{KrbfCcache, with_held};
 use crate::status::{DONE, kind_of};
 use crate::text::{KrbfBytes, bytes_of, copy_name};
@@ -93,7 +93,7 @@ pub extern "C" fn krbf_cc_client(
     ensures copies { Looks (cache_of cc.old) (cache_of cc.new) (λ k. CopiesTextAt (option_map (λ c. name_text c.client) (credential_at_place k place))
         result room.old room.new len.old len.new) }
 {
-    with_held!(cc, alloc, held => copy_name_at(alloc, held.cache(), place, false, room, len))
+    with_held!(cc, alloc, held => copy_client_at(alloc, held.cache(), place, room, len))
 }
 
 /// Copies the text of the server of the credential at `place` into `room`, as much as fits, and reports its length.
@@ -109,7 +109,7 @@ pub extern "C" fn krbf_cc_server(
     ensures copies { Looks (cache_of cc.old) (cache_of cc.new) (λ k. CopiesTextAt (option_map (λ c. name_text c.server) (credential_at_place k place))
         result room.old room.new len.old len.new) }
 {
-    with_held!(cc, alloc, held => copy_name_at(alloc, held.cache(), place, true, room, len))
+    with_held!(cc, alloc, held => copy_server_at(alloc, held.cache(), place, room, len))
 }
 
 /// Shows the first live ticket for the server that a text names. Skips configuration entries. In a damaged cache, looks

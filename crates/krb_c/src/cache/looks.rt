@@ -1,6 +1,6 @@
 //! Credentials as C sees them, and reading a cache for C.
 
-ghost use Rattle.std.specs.Prelude.{◌≡◌, None, option_copied, option_map, ok_or, Some, IsSome, if◌then◌else◌};
+ghost use Rattle.std.specs.Prelude.{◌≡◌, None, option_copied, option_map, ok_or, Some, IsSome};
 ghost use Rattle.krb_wire.specs.Reading.{principal_parts};
 ghost use Rattle.krb_wire.specs.NameOf.{name_of};
 ghost use Rattle.krb_wire.specs.Names.{name_text};
@@ -161,25 +161,36 @@ pub fn config(cache: &Ccache<Heap>, key: &[u8], principal: &[u8], value: &mut Kr
     DONE
 }
 
-/// Copies the text of the server or the client of the credential at `place` into `room`, as much as fits, and reports its
-/// length.
-pub fn copy_name_at(
+/// Copies the text of the client of the credential at `place` into `room`, as much as fits, and reports its length.
+pub fn copy_client_at(
     alloc: Global,
     held: &HeldCache,
     place: u32,
-    is_server: bool,
     room: &mut [u8],
     len: &mut usize,
 ) -> u32
-    ensures { CopiesTextAt (option_map (λ c. name_text (if is_server then c.server else c.client)) (credential_at_place held.now.state place))
+    ensures { CopiesTextAt (option_map (λ c. name_text c.client) (credential_at_place held.now.state place))
         result room.old room.new len.old len.new }
 {
     let Some(credential) = held.cred_at(place) else {
         return of_code(Code::NotLive);
     };
-    if is_server {
-        copy_name(alloc, credential.server(), room, len)
-    } else {
-        copy_name(alloc, credential.client(), room, len)
-    }
+    copy_name(alloc, credential.client(), room, len)
+}
+
+/// Copies the text of the server of the credential at `place` into `room`, as much as fits, and reports its length.
+pub fn copy_server_at(
+    alloc: Global,
+    held: &HeldCache,
+    place: u32,
+    room: &mut [u8],
+    len: &mut usize,
+) -> u32
+    ensures { CopiesTextAt (option_map (λ c. name_text c.server) (credential_at_place held.now.state place))
+        result room.old room.new len.old len.new }
+{
+    let Some(credential) = held.cred_at(place) else {
+        return of_code(Code::NotLive);
+    };
+    copy_name(alloc, credential.server(), room, len)
 }

@@ -21,7 +21,14 @@ use std::io::Write;
 
 const TO_REMOVE: &str = "krbfile: to see what would go: krbfile ktremove";
 
-const TO_COPY: &str = "krbfile: to have each once: krbfile ktcopy";
+// What hints for old and for doubled entries say: up to the command's name, and before and after the operand.
+const OLD_TEXTS: (&str, &str, &str) = (TO_REMOVE, " -n -k old --age 86400 ", "\n");
+
+const SAME_TEXTS: (&str, &str, &str) = (
+    "krbfile: to have each once: krbfile ktcopy",
+    " ",
+    " NEW\n",
+);
 
 // Returns an enctype as an operand: its name, or its number if it has none.
 fn etype_word(etype: u16) -> MessagePiece<'static>
@@ -63,30 +70,22 @@ fn order_flag(order: Order) -> &'static str
     }
 }
 
-// Returns a hint if its word is explained, else nothing: its head, up to the command's name, the flag of the check, and
-// what comes before and after the operand.
+// Returns a hint if its word is explained, else nothing. After its first text comes the flag of the check.
 fn hint<'a>(
     findings: &Findings,
     word: Finding,
-    head: &'static str,
-    options: &'static str,
+    texts: (&'static str, &'static str, &'static str),
     operand: &'a [u8],
-    tail: &'static str,
 ) -> Line<'a>
     ensures { pieces_text result.items ≡ line_if (has findings.now.words word)
-        (head.now ++ (order_flag findings.now.v1_order ++ (options.now ++ (operand.now ++ tail.now)))) }
+        (texts.entry.0.now ++ (order_flag findings.now.v1_order ++ (texts.entry.1.now ++ (operand.now ++ texts.entry.2.now)))) }
 {
     if !findings.words.has(word) {
         return nothing();
     }
     let flag = Text(order_flag(findings.v1_order));
-    line(&[
-        Text(head),
-        flag,
-        Text(options),
-        Operand(operand),
-        Text(tail),
-    ])
+    let (head, options, tail) = (Text(texts.0), Text(texts.1), Text(texts.2));
+    line(&[head, flag, options, Operand(operand), tail])
 }
 
 // Returns the dry run of ktremove, up to its options.
@@ -129,9 +128,8 @@ fn add_hints_for<E: Write>(
 )
     ensures { Adds err.old gathered.old.items err.new gathered.new.items (hints_for findings.now operand.now) }
 {
-    let before = " -n -k old --age 86400 ";
-    let old = hint(findings, Finding::Old, TO_REMOVE, before, operand, "\n");
-    let same = hint(findings, Finding::Same, TO_COPY, " ", operand, " NEW\n");
+    let old = hint(findings, Finding::Old, OLD_TEXTS, operand);
+    let same = hint(findings, Finding::Same, SAME_TEXTS, operand);
     add_line(&old, gathered, err);
     add_weak_hint(findings, operand, gathered, err);
     add_line(&same, gathered, err);

@@ -1,4 +1,6 @@
-use Rattle.krb_show.proofs.Cited.{◌≡◌, ◌∷◌, ◌∙◌, ap, arith, subst, sym, ℕ, List, Option, None, Old, PlacedEntry, unwrap_or, on_ok_weaker, some_is, EntryParts, LineKey, LineParts, line_key, lines_from, put_entry, AreSoFar}
+use Rattle.krb_show.proofs.Cited.{[], ◌≡◌, ◌∷◌, ◌∙◌, ap, arith, subst, sym, ℕ, List, Option, None, Old, PlacedEntry, unwrap_or, on_ok_weaker, some_is, EntryParts, LineKey, LineParts, line_key, lines_from, put_entry, AreSoFar}
+use Rattle.krb_show.proofs.EntryLines.{named}
+use Rattle.krb_wire.specs.Name.{Parts}
 use Rattle.krb_show.proofs.lines.SoFar.add.Goals as goal
 
 -- the next entry is in the line with its key
@@ -18,4 +20,4 @@ returns g c = λ all rest x read known.
       are_old = marked.1;
       count = omega (arith, c.in_ok-self.ensures, so_far.count);
       lines = ap (λ (l : List (LineKey × LineParts)). lines_from all l rest) (put ∙ ap (λ (k : LineKey). put_entry k e lines) is) ∙ so_far.lines;
-    }) (c.put_entry.ensures c.in-Some.ensures.exact)
+    }) (c.put_entry.ensures (c.of.ensures ∙ ap (λ (p : Parts). record { principal = p; added = 0; etypes = [] }) (named c.args.format c.args.record.now e c.in-Some.ensures.exact)))
