@@ -47,7 +47,8 @@ def of_sources() -> Iterator[tuple[str, set[object]]]:
     """Yields the phrases of the definitions and of Python's module that are not on the page, or the other way round."""
     displayed = (f"clash: {phrases.CLASH}", phrases.TO_REPLACE, phrases.NO_ENTRY)
     yield "the clashes", {each for each in displayed if each not in phrases.PAGE}
-    defined = {*re.findall(r'^\w+_phrase .*= codes "(.*)"$', sources("crates/*/specs/*.antt"), re.MULTILINE)}
+    in_code = r'^\w+_phrase .*= (?:\w+ \w+ \()?codes "(.*?)"\)?$'
+    defined = {*re.findall(in_code, sources("crates/*/specs/*.antt"), re.MULTILINE)}
     files = {"no such file", "file too large", "cannot read", "cannot write", "out of memory"}
     in_library = {*phrases.LIBRARY_CODES.values(), phrases.TOO_LONG, phrases.LIBRARY_IN_THE_WAY, "error "}
     numbered = {*phrases.CODES.values(), *phrases.FAULTS.values(), *phrases.LINES.values(),

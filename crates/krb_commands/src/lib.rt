@@ -10,7 +10,7 @@ pub use action::{Action, KtutilOptions, action_of, at_terminal};
 pub use commands::{COMMANDS, words_of};
 pub use krb_driver::{
     BadLine, CommandName, CommandWords, ErrorOutput, FileKind, FileName, Matches, Mistake, More,
-    NameSource, NotKeytab, Phrase, Word, WordFault, World,
+    NameSource, NotOpened, Phrase, Word, WordFault, World,
 };
 pub use krb_editors::{
     CopyOptions, DiffOptions, HoldKind, RemoveOptions, TicketOptions, run_ccedit, run_ccremove,

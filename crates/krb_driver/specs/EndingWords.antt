@@ -22,11 +22,11 @@ use Rattle.krb_driver.specs.declared.reporting.row.Explains.{Explains}
 use Rattle.krb_driver.specs.declared.reporting.row.Explains.TheVariants as by
 use Rattle.krb_driver.specs.declared.verdict.Findings.{Findings}
 use Rattle.krb_driver.specs.declared.verdict.Verdict.TheVariants.{HiddenFrom, NoEntry, Listed, Replied, Found, Judged, NothingToRemove, Clashed}
-use Rattle.krb_driver.specs.ErrorRows.{error_row, nothing_phrase, refusal_phrase}
+use Rattle.krb_driver.specs.ErrorRows.{Hidden, error_row, nothing_phrase, refusal_phrase, said_text}
 use Rattle.krb_driver.specs.FileNames.{shown_name, type_of, untyped}
 use Rattle.krb_driver.specs.FirstWords.{word_text}
 use Rattle.krb_driver.specs.Hints.{hint_words}
-use Rattle.krb_driver.specs.Messages.{file_message, line_if, numbered, numbered_line, words_line, phrase_line}
+use Rattle.krb_driver.specs.Messages.{file_message, line_if, numbered_line, words_line, phrase_line}
 use Rattle.krb_driver.specs.RunErrors.{Fault, LineFault, RunError, NameSource, Verdict, FirstWord, Ending}
 
 -- what is wrong with a line of a script, or of ktutil if a line number is given
@@ -102,8 +102,8 @@ failure_words kind (Some (Faulted fault)) = numbered_line (codes "krbfile: fault
 
 -- the words for an entry that was added and that MIT's programs do not see, as they see none from a place on
 abbrev pub hidden_words : List ℕ → Option ℕ → ℕ → List ℕ
-hidden_words file None place = file_message file (numbered (codes "MIT's programs see no entry from ") place (codes " on"))
-hidden_words file line place = phrase_line line (numbered (codes "MIT's programs see no entry from ") place (codes " on"))
+hidden_words file None place = file_message file (said_text (Hidden place))
+hidden_words file line place = phrase_line line (said_text (Hidden place))
 
 -- the words for an added entry that MIT's programs do not see, if there is one
 abbrev pub hidden_words_of : List ℕ → Option ℕ → List ℕ
@@ -136,12 +136,12 @@ unknown_words word = codes "krbfile: " ++ (line_phrase UnknownWord ++ (codes ": 
 abbrev pub words_by : List ℕ → Option ℕ → Details → List ℕ → Explains → List ℕ
 words_by file line details phrase by.Nothing = []
 words_by file line details phrase by.Phrase = phrase_line line phrase
-words_by file line details phrase (by.Line fault) = phrase_line line (line_fault_phrase line fault)
+words_by file line details phrase (by.LineFault fault) = phrase_line line (line_fault_phrase line fault)
 words_by file line details phrase by.Cause = cause_words file line details
 words_by file line details phrase (by.Missing source) = missing_words line source
 words_by file line details phrase (by.Type kind source) = other_type_words line kind file source
 words_by file line details phrase by.TypedName = typed_words line file
-words_by file line details phrase (by.FirstWord word) = unknown_words word
+words_by file line details phrase (by.First word) = unknown_words word
 words_by file line details phrase (by.Input fault) = fault_with file fault (codes "what was given is damaged")
 
 -- the words that explain an error of a run over that file, or of that line of ktutil

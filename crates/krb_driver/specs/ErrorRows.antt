@@ -55,12 +55,13 @@ no_ticket_phrase OfServices = codes "no ticket of a service"
 
 -- ---- rows
 
--- what a message says: a text, a refusal, the fault of a line, or why a file did not open
+-- what a message says: a text, a refusal, the fault of a line, why a file did not open, or from where on MIT's programs see no entry
 pub data Says : Type 0 where
   Alone : List ℕ → Says
   Refused : Code → Says
   Faulty : LineFault → Says
   NotOpened : OpenFault → Says
+  Hidden : ℕ → Says
 
 -- the text of what a message says
 abbrev pub said_text : Says → List ℕ
@@ -69,6 +70,7 @@ said_text (Refused code) = numbered (codes "refused ") (code_number code) []
 said_text (Faulty why) = numbered (codes "fault ") (line_fault_number why) []
 said_text (NotOpened (fault.Keytab why)) = numbered (codes "not a keytab (") (opening_number (fault.Keytab why)) (codes ")")
 said_text (NotOpened (fault.Cache why)) = numbered (codes "not a cache (") (opening_number (fault.Cache why)) (codes ")")
+said_text (Hidden place) = numbered (codes "MIT's programs see no entry from ") place (codes " on")
 
 -- the row of an error: the exit status of a run that it ends, what the message is about and says, what explains it, the phrase for that, and the name that hold's last line has for it, where that is not its number or its cause's
 pub record Row : Type 0 where
@@ -89,8 +91,8 @@ error_row error.InputTooLarge = row 1 Run (Alone (codes "input too large")) Phra
 error_row error.InputNotRead = row 3 Run (Alone (codes "cannot read input")) Cause [] []
 error_row error.InputNotWhole = row 1 Run (Alone (codes "input is not whole")) Phrase (codes "it is not a length, a newline and just as many bytes") (codes "EBADMSG")
 error_row (error.DamagedInput why) = row 1 File (Refused Damaged) (by.Input why) [] []
-error_row (error.FaultyLine line why) = row 1 (Line line) (Faulty why) (by.Line why) [] []
-error_row (error.UnknownWord line word) = row 1 (Line line) (Faulty UnknownWord) (by.FirstWord word) [] []
+error_row (error.FaultyLine line why) = row 1 (Line line) (Faulty why) (by.LineFault why) [] []
+error_row (error.UnknownWord line word) = row 1 (Line line) (Faulty UnknownWord) (by.First word) [] []
 error_row (error.FromPassword line) = row 1 (Line line) (Faulty WordCount) Phrase (codes "keys are not made from passwords here") []
 error_row (error.AsksForHelp line) = row 1 (Line line) (Faulty UnknownWord) Phrase (codes "see krbfile ktutil --help") []
 error_row (error.LineRefused line code) = row 1 (Line line) (Refused code) Phrase (refusal_phrase Keytab code) []
@@ -119,6 +121,7 @@ says_of (said.Alone text) = Alone text.now
 says_of (said.Refused code) = Refused code
 says_of (said.Faulty why) = Faulty why
 says_of (said.NotOpened why) = NotOpened why
+says_of (said.Hidden place) = Hidden place
 
 -- the row in code
 abbrev pub row_in : ErrorRow → Row

@@ -9,10 +9,10 @@ use Rattle.krb_files.specs.declared.files.Files.{Ghosts}
 use Rattle.krb_files.specs.declared.files.LoadFault.TheVariants as load
 use Rattle.krb_files.specs.Loading.{LoadsFile, most_bytes, Answer}
 use Rattle.krb_driver.specs.declared.error.RunError.TheVariants as error
-use Rattle.krb_driver.specs.declared.opener.CacheUse.{CacheUse}
-use Rattle.krb_driver.specs.declared.opener.CacheUse.TheVariants as cache_use
-use Rattle.krb_driver.specs.declared.opener.KeytabUse.{KeytabUse}
-use Rattle.krb_driver.specs.declared.opener.KeytabUse.TheVariants as keytab_use
+use Rattle.krb_driver.specs.declared.opening.CacheUse.{CacheUse}
+use Rattle.krb_driver.specs.declared.opening.CacheUse.TheVariants as cache_use
+use Rattle.krb_driver.specs.declared.opening.KeytabUse.{KeytabUse}
+use Rattle.krb_driver.specs.declared.opening.KeytabUse.TheVariants as keytab_use
 use Rattle.krb_driver.specs.declared.not_opened.Expected.{Expected}
 use Rattle.krb_driver.specs.declared.not_opened.Expected.TheVariants as expected
 use Rattle.krb_driver.specs.declared.not_opened.OpenFault.{OpenFault}

@@ -6,7 +6,7 @@ ghost use Rattle.krb_driver.specs.Composing.{made_effect, ready_end};
 
 use crate::error::{RunError, is_spent};
 use crate::file_name::FileName;
-use crate::opening::release;
+use crate::holding::release;
 use crate::reporting::details::{Details, details_of};
 use crate::reporting::{ErrorOutput, report, show};
 use crate::verdict::Verdict;

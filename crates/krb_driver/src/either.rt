@@ -8,7 +8,7 @@ use crate::beginning::begins_as;
 use crate::error::RunError;
 use crate::loading::{cache_of, keytab_of};
 use crate::not_opened::Expected;
-use crate::opener::Opener;
+use crate::opening::Opener;
 use krb_ccache::Ccache;
 use krb_files::Files;
 use krb_keytab::Keytab;

@@ -2,9 +2,8 @@
 
 ghost use Rattle.std.specs.Prelude.{◌≡◌};
 ghost use Rattle.krb_driver.specs.declared.error.RunError.TheVariants as error;
-ghost use Rattle.krb_driver.specs.declared.verdict.FileKind.TheVariants.{Keytab};
 ghost use Rattle.krb_driver.specs.FirstWords.{first_word, line_at, safe_word};
-ghost use Rattle.krb_driver.specs.RunErrors.{error_of_name, error_status, input_error, load_error, output_error, save_error, script_error, word_error, aftermath_status, end_status, ending_status, is_spent};
+ghost use Rattle.krb_driver.specs.RunErrors.{error_of_name, error_status, input_error, load_error, output_error, save_error, script_error, word_error, end_status, ending_status, is_spent};
 
 use crate::file_name::NameSource;
 use crate::first_word::FirstWord;
@@ -153,14 +152,6 @@ impl From<OutFault> for RunError {
     }
 }
 
-impl From<Code> for RunError {
-    ghost from_gives = { λ code given. given ≡ error.Refused Keytab code };
-
-    fn from(code: Code) -> RunError {
-        RunError::Refused(FileKind::Keytab, code)
-    }
-}
-
 impl From<NoMemory> for RunError {
     ghost from_gives = { λ _ given. given ≡ error.NoMemory };
 
@@ -186,19 +177,10 @@ fn ending_status(ending: Result<Verdict, RunError>) -> u8
     }
 }
 
-// Returns the least exit status of a run whose save left that behind: not 0 if another program wrote beside it.
-fn aftermath_status(aftermath: Option<Aftermath>) -> u8
-    ensures { result ≡ aftermath_status aftermath }
-{
-    match aftermath {
-        Some(Aftermath::LostChange | Aftermath::Mixed) => 1,
-        _ => 0,
-    }
-}
-
-/// Returns the exit status of a run that ended so, and whose save left that behind.
+/// Returns the exit status of a run that ended so, and whose save left that behind: not 0 if another program wrote beside it.
 pub fn end_status(ending: Result<Verdict, RunError>, aftermath: Option<Aftermath>) -> u8
     ensures { result ≡ end_status ending aftermath }
 {
-    ending_status(ending).max(aftermath_status(aftermath))
+    let is_beside = matches!(aftermath, Some(Aftermath::LostChange | Aftermath::Mixed));
+    ending_status(ending).max(u8::from(is_beside))
 }

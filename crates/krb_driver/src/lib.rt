@@ -8,9 +8,9 @@ mod either;
 mod error;
 mod file_name;
 mod first_word;
+mod holding;
 mod loading;
 mod not_opened;
-mod opener;
 mod opening;
 mod reporting;
 mod several;
@@ -28,15 +28,15 @@ pub use either::{Contents, EitherUse};
 pub use error::{RunError, is_spent};
 pub use file_name::{FileName, NameSource, append_name, type_of};
 pub use first_word::FirstWord;
+pub use holding::{hold, hold_if, release};
 pub use loading::{cache_of, keytab_of, read_input};
 pub use not_opened::{Expected, NotOpened, OpenFault};
-pub use opener::{CacheUse, KeytabUse, Opener, give, open, try_open};
-pub use opening::{hold, hold_if, other_type, release};
+pub use opening::{CacheUse, KeytabUse, Opener, give, open, try_open};
 pub use reporting::details::{Details, details_of};
 pub use reporting::reported::replied_verdict;
 pub use reporting::{
-    ErrorOutput, ErrorRow, MessagePiece, Said, append_said, name_near, report, report_word_fault,
-    show, write_pieces,
+    ErrorOutput, ErrorRow, Line, MessagePiece, Said, append_said, line, name_near, report,
+    report_word_fault, show, write_pieces,
 };
 pub use several::{OverFiles, Ran, label_of, run_over};
 pub use verdict::{FileKind, Findings, Judged, TicketsSought, Verdict};

@@ -1,8 +1,6 @@
 //! Opens images as keytabs and caches, and reads the standard input.
 
-ghost use Rattle.std.specs.Prelude.{◌≡◌, ◌⊎◌, if◌then◌else◌, Err, IfOk, Ok};
-ghost use Rattle.krb_files.specs.declared.files.LoadFault.TheVariants as load;
-ghost use Rattle.krb_driver.specs.RunErrors.{load_error};
+ghost use Rattle.std.specs.Prelude.{◌≡◌, ◌⊎◌, Err, IfOk, Ok};
 ghost use Rattle.krb_ccache.specs.Store.{image_of as cache_image};
 ghost use Rattle.krb_files.specs.Files.{answer_of};
 ghost use Rattle.krb_keytab.specs.Store.{empty, image_of};
@@ -13,7 +11,6 @@ ghost use Rattle.krb_driver.specs.Loading.{fresh_in, keytab_or_empty, opened_cac
 
 use crate::beginning::begins_as;
 use crate::error::RunError;
-use crate::file_name::NameSource;
 use crate::not_opened::{Expected, NotOpened, OpenFault};
 use krb_ccache::Ccache;
 use krb_files::{LoadFault, WatchedReader, load};
@@ -71,17 +68,6 @@ fn new_keytab<A: Allocator + Copy>(alloc: A) -> Result<Keytab<A>, RunError>
     }
 }
 
-// Returns an empty keytab of version 2 in the place of a missing file, unless that is to be saved in place.
-fn new_unless<A: Allocator + Copy>(alloc: A, in_place: bool) -> Result<Keytab<A>, RunError>
-    ensures { (result_map (λ k. k.state) result ≡ (if in_place then Err (load_error load.Missing) else Ok (empty V2 most_bytes))) ⊎ (result_map (λ k. k.state) result ≡ Err error.NoMemory) }
-{
-    if in_place {
-        Err(RunError::NoSuchFile(NameSource::Word))
-    } else {
-        new_keytab(alloc)
-    }
-}
-
 /// Opens what was loaded as a keytab, or returns an empty one of version 2 if the file is missing and not to be saved in
 /// place.
 pub fn keytab_or_new<A: Allocator + Copy>(
@@ -94,7 +80,7 @@ pub fn keytab_or_new<A: Allocator + Copy>(
         ⊎ (result_map (λ k. k.state) result ≡ Err error.NoMemory) }
 {
     match loaded {
-        Err(LoadFault::Missing) => new_unless(alloc, in_place),
+        Err(LoadFault::Missing) if !in_place => new_keytab(alloc),
         loaded => keytab_of(Expected::Keytab, v1_order, loaded?),
     }
 }

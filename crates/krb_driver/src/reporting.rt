@@ -19,12 +19,12 @@ mod writing;
 ghost use Rattle.std.specs.Prelude.{◌≡◌};
 ghost use Rattle.krb_driver.specs.Messages.{pieces_text};
 ghost use Rattle.krb_driver.specs.Runs.{Writes, Shows, Reports, aftermath_text, ending_text, Adds};
-ghost use Rattle.krb_driver.specs.RunErrors.{ending_message, error_message, verdict_message};
+ghost use Rattle.krb_driver.specs.RunErrors.{ending_message};
 
 use crate::error::{RunError, end_status};
 use crate::reporting::details::{About, Details};
 use crate::reporting::ending_words::add_ending_words;
-use crate::reporting::lines::{Line, aftermath_line, is_message, nothing};
+use crate::reporting::lines::{aftermath_line, is_message, nothing};
 use crate::reporting::row::Subject;
 use crate::reporting::said::message;
 use crate::reporting::writing::{Gathered, add_line, send};
@@ -32,6 +32,7 @@ use crate::verdict::Verdict;
 use arrayvec::ArrayVec;
 use krb_files::{Watched, put};
 use krb_walk::Code;
+pub use lines::{Line, line};
 pub use mistake_words::report_word_fault;
 pub use near_words::name_near;
 pub use piece::MessagePiece;
@@ -68,31 +69,19 @@ pub fn show<W: Write>(
     ending
 }
 
-// Returns the message for an error that ended a run.
-fn error_message(error: RunError, file: &[u8]) -> Line<'_>
-    ensures { pieces_text result.items ≡ error_message file.now error }
-{
-    let row = error.row();
-    message(row.subject, file, row.said)
-}
-
-// Returns the message of a run that did its work.
-fn verdict_message(verdict: Verdict, file: &[u8]) -> Line<'_>
-    ensures { pieces_text result.items ≡ verdict_message file.now verdict }
-{
-    match verdict {
-        Verdict::NothingToRemove(_) => message(Subject::File, file, Said::Refused(Code::NotFound)),
-        _ => nothing(),
-    }
-}
-
-// Returns the message for the end of a run.
+// Returns the message for the end of a run: that of an error, or that nothing was found to remove.
 fn ending_message(ending: Result<Verdict, RunError>, file: &[u8]) -> Line<'_>
     ensures { pieces_text result.items ≡ ending_message file.now ending }
 {
     match ending {
-        Ok(verdict) => verdict_message(verdict, file),
-        Err(error) => error_message(error, file),
+        Err(error) => {
+            let row = error.row();
+            message(row.subject, file, row.said)
+        }
+        Ok(Verdict::NothingToRemove(_)) => {
+            message(Subject::File, file, Said::Refused(Code::NotFound))
+        }
+        Ok(_) => nothing(),
     }
 }
 

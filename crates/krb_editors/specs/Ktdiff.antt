@@ -33,7 +33,8 @@ finds_none s xs ys = not (asks_for_any s) && ((length xs == 0) && (length ys == 
 -- ktdiff compares two keytabs by their selected entries
 abbrev pub differs : Comparison → List ℕ → KeytabState → KeytabState → Effect
 differs o ours k j =
-    let (xs, ys) = (selected_in o.selection 0 k, selected_in o.selection 0 j) in
+    let xs : List PlacedEntry = selected_in o.selection 0 k in
+    let ys : List PlacedEntry = selected_in o.selection 0 j in
     if finds_none o.selection xs ys then Fails ours NothingToCopy else Displays ours (text (diff_text xs ys) (verdict_of (diff_text xs ys)))
 
 -- ktdiff opens B and compares its keytab with that of A

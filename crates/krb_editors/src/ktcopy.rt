@@ -20,9 +20,9 @@ use crate::selecting::{
 use krb_audit::{SelectedKvno, Selection, hides_added, selected_entries};
 use krb_copy::{Copied, copy_into};
 use krb_driver::{
-    Command, CommandName, CommandWords, FileError, FileName, IN_PLACE, KeytabUse, Made, MakeResult,
-    Matches, Mistake, Output, Phrase, RunError, V1_BIG, Verdict, Word, WordFault, World, hold_if,
-    open, refuse_twice, run, times_given, v1_order,
+    Command, CommandName, CommandWords, FileError, FileKind, FileName, IN_PLACE, KeytabUse, Made,
+    MakeResult, Matches, Mistake, Output, Phrase, RunError, V1_BIG, Verdict, Word, WordFault,
+    World, hold_if, open, refuse_twice, run, times_given, v1_order,
 };
 use krb_files::Files;
 use krb_keytab::{EntryView, Keytab};
@@ -230,7 +230,7 @@ fn copy<'a, A: Allocator + Copy, B: Allocator>(
         Ok(copied) => made(command, copied),
         Err(Refusal::Code(code)) => Err(FileError {
             file: command.to.name,
-            error: RunError::from(code),
+            error: RunError::Refused(FileKind::Keytab, code),
         }),
         Err(Refusal::NoMemory) => Err(FileError::from(NoMemory)),
     }

@@ -42,3 +42,4 @@ pub use Rattle.krb_driver.specs.declared.reporting.details.Details.{Details}
 pub use Rattle.krb_wire.specs.declared.format.Order.{Order}
 pub use Rattle.krb_text.specs.declared.line_fault.LineRefusal.{LineRefusal}
 pub use Rattle.krb_text.specs.LineFault.{Reads}
+pub use Rattle.krb_driver.specs.declared.error.RunError.{RunError}

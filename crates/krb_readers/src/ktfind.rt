@@ -6,8 +6,8 @@ ghost use Rattle.krb_readers.specs.Ktfind.{entry_sought_of, finds, ktfind_plan, 
 ghost use Rattle.krb_driver.specs.Spelled.{ReadsAs, Spells};
 
 use krb_driver::{
-    Command, CommandName, CommandWords, FileError, FileName, KeytabUse, Made, MakeResult, Matches,
-    Mistake, Output, Phrase, RunError, V1_BIG, Verdict, Word, WordFault, World, open, run,
+    Command, CommandName, CommandWords, FileError, FileKind, FileName, KeytabUse, Made, MakeResult,
+    Matches, Mistake, Output, Phrase, RunError, V1_BIG, Verdict, Word, WordFault, World, open, run,
     spelled_etype, spelled_name, v1_order,
 };
 use krb_files::Files;
@@ -123,7 +123,7 @@ fn find<'a, A: Allocator, B: Allocator>(
         })),
         Err(code) => Err(FileError {
             file: command.file.name,
-            error: RunError::from(code),
+            error: RunError::Refused(FileKind::Keytab, code),
         }),
     }
 }

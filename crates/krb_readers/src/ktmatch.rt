@@ -6,7 +6,7 @@ mod state;
 mod verdict;
 pub(crate) mod words;
 
-ghost use Rattle.std.specs.Prelude.{◌≡◌};
+ghost use Rattle.std.specs.Prelude.{◌≡◌, nat_lt, length};
 ghost use Rattle.krb_driver.specs.Commands.{GivesOf};
 ghost use Rattle.krb_driver.specs.Composing.{opened};
 ghost use Rattle.krb_driver.specs.Loading.{whole_in};
@@ -153,7 +153,7 @@ fn match_with<A: Allocator + Copy, B: Allocator, F: Files, R: Read, W: Write, E:
 }
 
 // Loads the keytab, which is to have no damage.
-fn load<'a, A: Allocator, B: Allocator, F: Files>(
+fn load<'a, A: Allocator + Copy, B: Allocator, F: Files>(
     alloc: A,
     options: &MatchOptions<B>,
     files: &mut F,

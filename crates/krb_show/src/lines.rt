@@ -1,6 +1,6 @@
 //! The lines of a keytab's table: one for each name and version.
 
-ghost use Rattle.std.specs.Prelude.{◌≡◌, ◌+◌, ◌++◌, ◌∷◌, List, IfOk, OnOk, Some, length};
+ghost use Rattle.std.specs.Prelude.{[], ◌≡◌, ◌+◌, ◌++◌, ◌∷◌, List, IfOk, OnOk, Some, length};
 ghost use Rattle.krb_wire.specs.Names.{name_text};
 ghost use Rattle.krb_keytab.specs.Entry.{entry_at};
 ghost use Rattle.krb_keytab.specs.Find.{PlacedEntry, placed_entries};
@@ -44,12 +44,15 @@ impl<'a, A: Allocator> Model for Line<'a, A> {
 pub type Lines<'a, A> = BTreeMap<LineKey, Line<'a, A>, A>;
 
 impl<'a, A: Allocator> Line<'a, A> {
+    ghost use Rattle.std.specs.Prelude.{[]};
+    ghost use Rattle.krb_show.specs.Named.{principal_in};
+
     // Returns a line for the name of a record, without an entry.
-    fn of(alloc: A, format: KtFormat, record: &'a [u8]) -> Line<'a, A>
-        ensures { result ≡ record { principal = principal_in format record.now; added = 0; etypes = [] } }
+    fn of(alloc: A, format: KtFormat, bytes: &'a [u8]) -> Line<'a, A>
+        ensures { result ≡ record { principal = principal_in format bytes.now; added = 0; etypes = [] } }
     {
         Line {
-            record,
+            record: bytes,
             format,
             added: 0,
             etypes: Vec::new(alloc),
@@ -84,7 +87,7 @@ fn put_entry<'a, A: Allocator + Copy>(
     entry: &EntryView<'_>,
     lines: &mut Lines<'a, A>,
 ) -> Result<(), NoMemory>
-    ensures { begun ≡ record { principal = entry.now.principal; added = 0; etypes = [] }
+    ensures { begun.entry ≡ record { principal = entry.now.principal; added = 0; etypes = [] }
         → OnOk result (lines.new.entries ≡ put_entry key entry.now lines.old.entries) }
 {
     let (timestamp, etype) = (entry.timestamp(), entry.enctype());

@@ -40,19 +40,8 @@ impl<'a> Details<'a> {
     }
 }
 
-/// Returns why the run's failed call failed: the last failed write of `out` if it was that, else the call of `files`.
-pub fn cause_of<F: Files, W: Write>(
-    ending: &Result<Verdict, RunError>,
-    files: &F,
-    out: &Watched<W>,
-) -> Option<Cause> {
-    match ending {
-        Err(RunError::OutputNotWritten) => out.cause(),
-        _ => files.cause(),
-    }
-}
-
-/// Returns the details of a run that ended so: its cause, and what the last save of `files` left behind.
+/// Returns the details of a run that ended so: why its failed call failed, the last write of `out` or a call of `files`,
+/// and what the last save of `files` left behind.
 pub fn details_of<'a, F: Files, W: Write>(
     ending: &Result<Verdict, RunError>,
     files: &'a F,
@@ -61,8 +50,12 @@ pub fn details_of<'a, F: Files, W: Write>(
     ensures left { result.aftermath ≡ F.Files.aftermath files.now }
     ensures honest { F.Files.is_honest files.now → F.Files.aftermath files.now ≡ None }
 {
+    let cause = match ending {
+        Err(RunError::OutputNotWritten) => out.cause(),
+        _ => files.cause(),
+    };
     Details {
-        cause: cause_of(ending, files, out),
+        cause,
         in_the_way: files.in_the_way(),
         aftermath: files.aftermath(),
     }

@@ -48,39 +48,22 @@ pub fn numbered_line(head: &'static str, number: u32, phrase: &'static str) -> L
     line(&[Text(head), number, COLON, Text(phrase), END])
 }
 
-// Returns words for a run.
-fn run_words<'a>(pieces: &[MessagePiece<'a>]) -> Line<'a>
-    requires { length pieces.now ≤ 8 }
-    ensures { pieces_text result.items ≡ words_line None (pieces_text pieces.now) }
-{
-    let mut words = ArrayVec::new();
-    words.push(HEAD);
-    words.try_extend_from_slice(pieces).unwrap();
-    words
-}
-
-// Returns words for a line of ktutil.
-fn line_words<'a>(number: u64, pieces: &[MessagePiece<'a>]) -> Line<'a>
-    requires { length pieces.now ≤ 6 }
-    ensures { pieces_text result.items ≡ words_line (Some number) (pieces_text pieces.now) }
-{
-    let mut words = ArrayVec::new();
-    words.push(LINE);
-    words.push(Number(number));
-    words.push(COLON);
-    words.try_extend_from_slice(pieces).unwrap();
-    words
-}
-
 /// Returns words, after the line number if they are for a line of ktutil.
 pub fn words<'a>(number: Option<u64>, pieces: &[MessagePiece<'a>]) -> Line<'a>
     requires { length pieces.now ≤ 6 }
     ensures { pieces_text result.items ≡ words_line number (pieces_text pieces.now) }
 {
+    let mut words = ArrayVec::new();
     match number {
-        None => run_words(pieces),
-        Some(number) => line_words(number, pieces),
+        None => words.push(HEAD),
+        Some(number) => {
+            words.push(LINE);
+            words.push(Number(number));
+            words.push(COLON);
+        }
     }
+    words.try_extend_from_slice(pieces).unwrap();
+    words
 }
 
 /// Returns words that are one phrase.

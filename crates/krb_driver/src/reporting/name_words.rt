@@ -11,12 +11,10 @@ use crate::reporting::lines::{Line, alone, phrase, words};
 use crate::reporting::piece::END;
 use crate::reporting::piece::MessagePiece::{self, Name, Text};
 use crate::reporting::row::Subject;
-use crate::reporting::said::message_of;
+use crate::reporting::said::{Said, message};
 use crate::verdict::FileKind;
 
 const COLLECTION: &str = "a collection; give one of its caches, DIR::FILE\n";
-
-const SEES_NONE: &str = "MIT's programs see no entry from ";
 
 // Returns the words that say where a file's name comes from, if no word of a line gave it; or how a principal is named.
 fn source_line(source: NameSource) -> &'static str
@@ -113,5 +111,5 @@ pub fn hidden_words(file: &[u8], line: Option<u64>, place: u32) -> Line<'_>
         None => Subject::File,
         Some(line) => Subject::Line(line),
     };
-    message_of(subject, file, (SEES_NONE, Some(place), " on"))
+    message(subject, file, Said::Hidden(place))
 }

@@ -8,16 +8,31 @@ use crate::beginning::Beginning;
 use crate::error::RunError;
 use crate::file_name::NameSource;
 use crate::first_word::FirstWord;
-use crate::not_opened::{Expected, NotOpened};
+use crate::not_opened::{self, Expected};
+use crate::reporting::row::Explains::{First, Input, LineFault, Missing, Nothing, Type, TypedName};
 use crate::reporting::row::Subject::{File, Line, Run};
-use crate::reporting::said::Said::{self, Alone, Faulty, Refused};
-use crate::verdict::{FileKind, TicketsSought};
-use krb_text::LineFault;
-use krb_walk::{Code, Fault};
+use crate::reporting::said::Said::{self, Alone, Faulty, NotOpened, Refused};
+use crate::verdict::FileKind::{self, Keytab};
+use crate::verdict::TicketsSought;
+use krb_text::LineFault::{UnknownWord as Unknown, WordCount};
+use krb_walk::Code::{self, Damaged, NotFound};
+use krb_walk::Fault;
 
+// What messages say.
+const INPUT_TOO_LARGE: &str = "input too large";
+
+const NOT_WHOLE: &str = "input is not whole";
+
+const NO_FILE: &str = "no such file";
+
+const NO_OUTPUT: &str = "cannot write output";
+
+const NO_CLOCK: &str = "cannot read the clock";
+
+// Phrases that explain it.
 const TOO_LARGE: &str = "it has more than 16,777,216 bytes";
 
-const NOT_WHOLE: &str = "it is not a length, a newline and just as many bytes";
+const NO_FRAME: &str = "it is not a length, a newline and just as many bytes";
 
 const NO_PASSWORDS: &str = "keys are not made from passwords here";
 
@@ -25,7 +40,7 @@ const SEE_HELP: &str = "see krbfile ktutil --help";
 
 const NO_TERMINAL: &str = "the image is for a program; give it a pipe";
 
-const NO_CLOCK: &str = "the clock is before 1970 or after 2106, or failed";
+const CLOCK_FAILED: &str = "the clock is before 1970 or after 2106, or failed";
 
 /// What a message is about.
 #[derive(Clone, Copy)]
@@ -42,7 +57,7 @@ pub enum Explains {
     Nothing,
     Phrase,
     /// The fault of a line of a script, or of ktutil.
-    Line(LineFault),
+    LineFault(krb_text::LineFault),
     /// The cause of the failed call.
     Cause,
     /// Where the name of the missing file comes from.
@@ -51,7 +66,7 @@ pub enum Explains {
     Type(FileKind, NameSource),
     /// The type that a name begins with where a file is to be written.
     TypedName,
-    FirstWord(FirstWord),
+    First(FirstWord),
     /// The fault of what was given.
     Input(Fault),
 }
@@ -175,7 +190,7 @@ fn begun_phrase(begins: Beginning, expected: Expected, other: &'static str) -> &
 }
 
 // Returns why a file did not open.
-fn not_opened_phrase(why: NotOpened) -> &'static str
+fn not_opened_phrase(why: not_opened::NotOpened) -> &'static str
     ensures { result.now ≡ not_opened_phrase why }
 {
     let phrase = why.fault.phrase();
@@ -191,71 +206,36 @@ impl RunError {
         ensures { row_in result ≡ error_row self }
     {
         match self {
-            Self::InputTooLarge => {
-                wrong(Run, Alone("input too large"), TOO_LARGE).named("EFBIG")
-            }
+            Self::InputTooLarge => wrong(Run, Alone(INPUT_TOO_LARGE), TOO_LARGE).named("EFBIG"),
             Self::InputNotRead => failed(Run, "cannot read input"),
-            Self::InputNotWhole => {
-                wrong(Run, Alone("input is not whole"), NOT_WHOLE).named("EBADMSG")
-            }
-            Self::DamagedInput(fault) => by(File, Refused(Code::Damaged), Explains::Input(fault)),
-            Self::FaultyLine { line, fault } => {
-                by(Line(line), Faulty(fault), Explains::Line(fault))
-            }
-            Self::UnknownWord { line, word } => {
-                let said = Faulty(LineFault::UnknownWord);
-                by(Line(line), said, Explains::FirstWord(word))
-            }
-            Self::FromPassword { line } => {
-                wrong(Line(line), Faulty(LineFault::WordCount), NO_PASSWORDS)
-            }
-            Self::AsksForHelp { line } => {
-                wrong(Line(line), Faulty(LineFault::UnknownWord), SEE_HELP)
-            }
+            Self::InputNotWhole => wrong(Run, Alone(NOT_WHOLE), NO_FRAME).named("EBADMSG"),
+            Self::DamagedInput(fault) => by(File, Refused(Damaged), Input(fault)),
+            Self::FaultyLine { line, fault } => by(Line(line), Faulty(fault), LineFault(fault)),
+            Self::UnknownWord { line, word } => by(Line(line), Faulty(Unknown), First(word)),
+            Self::FromPassword { line } => wrong(Line(line), Faulty(WordCount), NO_PASSWORDS),
+            Self::AsksForHelp { line } => wrong(Line(line), Faulty(Unknown), SEE_HELP),
             Self::LineRefused { line, code } => {
-                let phrase = refusal_phrase(FileKind::Keytab, code);
-                wrong(Line(line), Refused(code), phrase)
+                wrong(Line(line), Refused(code), refusal_phrase(Keytab, code))
             }
-            Self::NoSuchFile(source) => {
-                let explains = Explains::Missing(source);
-                by(File, Alone("no such file"), explains).named("ENOENT")
-            }
+            Self::NoSuchFile(source) => by(File, Alone(NO_FILE), Missing(source)).named("ENOENT"),
             Self::OtherType(kind, source) => {
-                let explains = Explains::Type(kind, source);
-                by(File, Alone("no such file"), explains).named("ENOENT")
+                by(File, Alone(NO_FILE), Type(kind, source)).named("ENOENT")
             }
-            Self::TypedName => {
-                by(File, Alone("cannot write"), Explains::TypedName).with_status(3)
-            }
+            Self::TypedName => by(File, Alone("cannot write"), TypedName).with_status(3),
             Self::FileTooLarge => wrong(File, Alone("file too large"), TOO_LARGE).named("EFBIG"),
             Self::FileNotRead => failed(File, "cannot read"),
             Self::FileNotWritten => failed(File, "cannot write"),
-            Self::NotOpened(why) => {
-                wrong(File, Said::NotOpened(why.fault), not_opened_phrase(why))
-            }
+            Self::NotOpened(why) => wrong(File, NotOpened(why.fault), not_opened_phrase(why)),
             Self::Refused(kind, code) => wrong(File, Refused(code), refusal_phrase(kind, code)),
-            Self::NothingToCopy => {
-                let phrase = nothing_phrase(FileKind::Keytab);
-                wrong(File, Refused(Code::NotFound), phrase)
-            }
-            Self::NothingSelected(kind) => {
-                wrong(Run, Refused(Code::NotFound), nothing_phrase(kind))
-            }
-            Self::NoTicketIn(sought) => {
-                wrong(File, Refused(Code::NotFound), no_ticket_phrase(sought))
-            }
-            Self::NoTickets(sought) => {
-                wrong(Run, Refused(Code::NotFound), no_ticket_phrase(sought))
-            }
-            Self::OutputNotWritten => failed(Run, "cannot write output"),
-            Self::OutputIsTerminal => {
-                wrong(Run, Alone("cannot write output"), NO_TERMINAL).with_status(3)
-            }
-            Self::ClockNotRead => {
-                wrong(Run, Alone("cannot read the clock"), NO_CLOCK).with_status(3)
-            }
+            Self::NothingToCopy => wrong(File, Refused(NotFound), nothing_phrase(Keytab)),
+            Self::NothingSelected(kind) => wrong(Run, Refused(NotFound), nothing_phrase(kind)),
+            Self::NoTicketIn(sought) => wrong(File, Refused(NotFound), no_ticket_phrase(sought)),
+            Self::NoTickets(sought) => wrong(Run, Refused(NotFound), no_ticket_phrase(sought)),
+            Self::OutputNotWritten => failed(Run, NO_OUTPUT),
+            Self::OutputIsTerminal => wrong(Run, Alone(NO_OUTPUT), NO_TERMINAL).with_status(3),
+            Self::ClockNotRead => wrong(Run, Alone(NO_CLOCK), CLOCK_FAILED).with_status(3),
             Self::NoMemory => {
-                let row = by(Run, Alone("out of memory"), Explains::Nothing);
+                let row = by(Run, Alone("out of memory"), Nothing);
                 row.with_status(4).named("ENOMEM")
             }
         }

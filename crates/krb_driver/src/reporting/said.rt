@@ -28,6 +28,8 @@ pub enum Said {
     Faulty(LineFault),
     /// Why a file did not open.
     NotOpened(OpenFault),
+    /// The place from which on MIT's programs see no entry.
+    Hidden(u32),
 }
 
 /// A text, a number if there is one, and the text after it.
@@ -43,6 +45,7 @@ impl Said {
             Said::Faulty(fault) => ("fault ", Some(fault.number()), ""),
             Said::NotOpened(OpenFault::Keytab(why)) => ("not a keytab (", Some(why.number()), ")"),
             Said::NotOpened(OpenFault::Cache(why)) => ("not a cache (", Some(why.number()), ")"),
+            Said::Hidden(place) => ("MIT's programs see no entry from ", Some(place), " on"),
         }
     }
 }
@@ -73,23 +76,16 @@ fn file_message(file: &[u8], parts: Parts) -> Line<'_>
     line(&[HEAD, Name(file), COLON, before, number, after, END])
 }
 
-/// Returns the message that has these parts after what it is about.
-pub fn message_of(subject: Subject, file: &[u8], parts: Parts) -> Line<'_>
-    ensures { pieces_text result.items ≡ message_about subject file.now
-        (parts.entry.0.now ++ (option_map_or decimal parts.entry.1 [] ++ parts.entry.2.now)) }
+/// Returns the message that says that of the run, of a file or of a line of the input.
+pub fn message(subject: Subject, file: &[u8], said: Said) -> Line<'_>
+    ensures { pieces_text result.items ≡ message_about subject file.now (said_text (says_of said)) }
 {
+    let parts = said.parts();
     match subject {
         Subject::Run => input_message(None, parts),
         Subject::File => file_message(file, parts),
         Subject::Line(line) => input_message(Some(line), parts),
     }
-}
-
-/// Returns the message that says that of the run, of a file or of a line of the input.
-pub fn message(subject: Subject, file: &[u8], said: Said) -> Line<'_>
-    ensures { pieces_text result.items ≡ message_about subject file.now (said_text (says_of said)) }
-{
-    message_of(subject, file, said.parts())
 }
 
 /// Appends what the message for an error says after the name of a file; nothing if it names none.

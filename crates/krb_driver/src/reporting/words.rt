@@ -106,12 +106,12 @@ pub fn error_words(error: RunError, about: About<'_>) -> Line<'_>
     match row.explains {
         Explains::Nothing => nothing(),
         Explains::Phrase => phrase(line, row.phrase),
-        Explains::Line(fault) => phrase(line, line_fault_phrase(line, fault)),
+        Explains::LineFault(fault) => phrase(line, line_fault_phrase(line, fault)),
         Explains::Cause => cause_words(file, line, details),
         Explains::Missing(source) => missing_words(line, source),
         Explains::Type(kind, source) => other_type_words(line, kind, file, source),
         Explains::TypedName => typed_words(line, file),
-        Explains::FirstWord(word) => unknown_words(word),
+        Explains::First(word) => unknown_words(word),
         Explains::Input(fault) => fault_with(file, fault, "what was given is damaged"),
     }
 }

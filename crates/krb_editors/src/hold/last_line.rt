@@ -5,7 +5,7 @@ ghost use Rattle.krb_driver.specs.Messages.{piece_text, pieces_text};
 ghost use Rattle.krb_editors.specs.HoldEnds.{TellsEnd, cause_name_or, end_of, last_line, why_failed};
 
 use krb_driver::MessagePiece::{self, Number, Text};
-use krb_driver::{FileError, RunError, Said, write_pieces};
+use krb_driver::{FileError, Line, RunError, Said, line, write_pieces};
 use krb_files::{Aftermath, Cause, Watched};
 use std::io::Write;
 
@@ -16,11 +16,6 @@ pub enum Outcome {
     /// There was nothing to save.
     Left,
 }
-
-const NONE: MessagePiece<'static> = Text("");
-
-/// The pieces of a last line. Unused ones are empty.
-type LastLine = [MessagePiece<'static>; 5];
 
 // Returns the name that errno.h has for a cause, or for an unknown one.
 fn cause_name_or(cause: Option<Cause>) -> &'static str
@@ -51,8 +46,8 @@ fn last_line(
     status: u8,
     cause: Option<Cause>,
     aftermath: Option<Aftermath>,
-) -> LastLine
-    ensures { pieces_text result ≡ last_line status cause aftermath (end_of end.entry) }
+) -> Line<'static>
+    ensures { pieces_text result.items ≡ last_line status cause aftermath (end_of end.entry) }
 {
     let said = match (aftermath, end) {
         (Some(Aftermath::Damaged | Aftermath::Mixed), _) => "damaged\n",
@@ -61,10 +56,10 @@ fn last_line(
         (_, Ok(Outcome::Left)) => "left\n",
         (_, Err(met)) => {
             let (status, why) = (Number(u64::from(status)), why_failed(met.error, cause));
-            return [Text("failed "), status, Text(" "), why, Text("\n")];
+            return line(&[Text("failed "), status, Text(" "), why, Text("\n")]);
         }
     };
-    [Text(said), NONE, NONE, NONE, NONE]
+    line(&[Text(said)])
 }
 
 /// Writes the line that says how a run with that status ended, unless the output has failed. Ignores a failure.
@@ -80,5 +75,5 @@ pub fn tell_end<W: Write>(
     if out.has_failed() {
         return;
     }
-    write_pieces(&last_line(end, status, cause, aftermath), out);
+    write_pieces(last_line(end, status, cause, aftermath).as_slice(), out);
 }

@@ -1,8 +1,8 @@
 //! What ktcheck shows of a file.
 
-ghost use Rattle.std.specs.Prelude.{◌≡◌, ◌++◌, IfOk, OnOk};
+ghost use Rattle.std.specs.Prelude.{◌≡◌, ◌++◌, IfOk, OnOk, false};
 ghost use Rattle.krb_driver.specs.Composing.{output_page};
-ghost use Rattle.krb_readers.specs.Ktcheck.{check_page, found, found_verdict, is_silent, left_out, lines_of};
+ghost use Rattle.krb_readers.specs.Ktcheck.{check_page, found, found_verdict, is_silent, left_out, lines_of, page_of};
 
 use crate::ktcheck::words::CheckOptions;
 use krb_audit::{CheckUp, append_report, check_up};

@@ -1,6 +1,6 @@
 use Rattle.krb_show.proofs.Cited.{[], ◌≡◌, ◌∷◌, ◌∙◌, ap, arith, subst, sym, ℕ, List, Option, None, Old, PlacedEntry, unwrap_or, on_ok_weaker, some_is, EntryParts, LineKey, LineParts, line_key, lines_from, put_entry, AreSoFar}
 use Rattle.krb_show.proofs.EntryLines.{named}
-use Rattle.krb_wire.specs.Name.{Parts}
+use Rattle.krb_wire.specs.Spelling.{Parts}
 use Rattle.krb_show.proofs.lines.SoFar.add.Goals as goal
 
 -- the next entry is in the line with its key
