@@ -1,28 +1,27 @@
 //! ktcopy: copies entries from one keytab into another.
 
-ghost use Rattle.std.specs.Prelude.{◌≡◌, Ok, if◌then◌else◌, option_map};
+mod copied;
+
+ghost use Rattle.std.specs.Prelude.{◌≡◌, Ok, option_map};
 ghost use Rattle.krb_wire.specs.Reading.{principal_parts};
-ghost use Rattle.krb_copy.specs.Copying.{Run, asked_as, copy_run};
-ghost use Rattle.krb_copy.specs.Made.{IsMade as IsRunOf};
-ghost use Rattle.krb_audit.specs.Findings.{hides_added};
+ghost use Rattle.krb_copy.specs.Copying.{asked_as, copy_run};
 ghost use Rattle.krb_audit.specs.Selection.{selected_in};
 ghost use Rattle.krb_driver.specs.Commands.{Makes, Runs, always, any, IsMade};
 ghost use Rattle.krb_driver.specs.Composing.{text_effect};
 ghost use Rattle.krb_driver.specs.Mistakes.{Refuses};
 ghost use Rattle.krb_driver.specs.Spelled.{ReadsAs};
-ghost use Rattle.krb_driver.specs.RunErrors.{hiding};
-ghost use Rattle.krb_driver.specs.declared.verdict.Verdict.TheVariants.{Clashed, Well};
 ghost use Rattle.krb_editors.specs.Ktcopy.{asks_for_some, copied_effect, copies_from, copies_to, copy_of, finds_none, ktcopy_plan, odd_new_name};
 
+use crate::ktcopy::copied::made;
 use crate::selecting::{
     OF_ENCTYPE, OF_PRINCIPAL, spelled_kvno, spelled_new_name, spelled_selection,
 };
-use krb_audit::{SelectedKvno, Selection, hides_added, selected_entries};
-use krb_copy::{Copied, copy_into};
+use krb_audit::{SelectedKvno, Selection, selected_entries};
+use krb_copy::copy_into;
 use krb_driver::{
     Command, CommandName, CommandWords, FileError, FileKind, FileName, IN_PLACE, KeytabUse, Made,
-    MakeResult, Matches, Mistake, Output, Phrase, RunError, V1_BIG, Verdict, Word, WordFault,
-    World, hold_if, open, refuse_twice, run, times_given, v1_order,
+    MakeResult, Matches, Mistake, Output, Phrase, RunError, V1_BIG, Word, WordFault, World,
+    hold_if, open, refuse_twice, run, times_given, v1_order,
 };
 use krb_files::Files;
 use krb_keytab::{EntryView, Keytab};
@@ -152,60 +151,6 @@ fn finds_none<B: Allocator>(selection: &Selection<B>, entries: &[(u32, EntryView
     ensures { result ≡ finds_none selection.now entries.now }
 {
     entries.is_empty() && asks_for_some(selection)
-}
-
-// Returns what to print if an entry clashed: all lines in a dry run, and otherwise those of the clashes.
-fn clashed<A: Allocator, B: Allocator>(
-    options: &CopyOptions<B>,
-    text: Vec<u8, A>,
-    clashes: Vec<u8, A>,
-) -> Output<A>
-    ensures text { result.text.items ≡ (if options.now.dry_run then text.items else clashes.items) }
-    ensures verdict { result.verdict ≡ Clashed options.now.replace }
-{
-    let replaces = options.replace;
-    Output {
-        text: if options.dry_run { text } else { clashes },
-        verdict: Verdict::Clashed { replaces },
-    }
-}
-
-// Returns what to print of a run that copied entries to these places. The verdict says if MIT's programs miss one.
-fn copied_output<A: Allocator>(keytab: &Keytab<A>, places: &[u32], text: Vec<u8, A>) -> Output<A>
-    ensures text { result.text.items ≡ text.items }
-    ensures verdict { result.verdict ≡ hiding (hides_added keytab.now.state places.now) Well }
-{
-    let verdict = Verdict::Well.hiding(hides_added(keytab, places));
-    Output { text, verdict }
-}
-
-// Returns what to print and save of what was copied.
-fn made<'a, A: Allocator + Copy, B: Allocator>(
-    command: &CopyEntries<'a, B>,
-    copied: Copied<A>,
-) -> Result<Made<A, Output<A>>, FileError<'a>>
-    ensures { (run : Run) → IsRunOf (Ok run) copied.text.items copied.clashes.items copied.places.items copied.keytab.state
-        → text_effect command.now.to.name.now result ≡ copied_effect command.now.options.now command.now.to.name.now (Ok run) }
-{
-    let Copied {
-        text,
-        clashes,
-        places,
-        keytab,
-    } = copied;
-    let options = command.options;
-    if !clashes.is_empty() {
-        return Ok(Made::Shows(clashed(options, text, clashes)));
-    }
-    if text.is_empty() {
-        let verdict = Verdict::Well;
-        return Ok(Made::Shows(Output { text, verdict }));
-    }
-    let output = copied_output(&keytab, &places, text);
-    if options.dry_run {
-        return Ok(Made::Shows(output));
-    }
-    Ok(Made::Saves(keytab.into_image(), output))
 }
 
 // Copies the selected entries, which have their places in FROM, into the keytab TO, under the new name if there is one.
