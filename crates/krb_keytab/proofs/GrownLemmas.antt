@@ -16,12 +16,6 @@ grown_height n h full =
 same_height : (n h : ℕ) → IsHeightFor n h → n < 2 ^ h → IsHeightFor (n + 1) h
 same_height n h is lt = (omega (arith, lt), λ lower less. omega (arith, is.1 lower less))
 
--- no hole has more bytes than a length can say
-pub none_so_large : (f : KtFormat) (at need : ℕ) (cs : List Cell) → AllByRecursion (IsCell f) cs → 2 ^ 31 < need → hole_from at need cs ≡ None
-none_so_large f at need [] sound lt = refl
-none_so_large f at need (Live b ∷ cs) sound lt = none_so_large f (at + (4 + length b)) need cs sound.1 lt
-none_so_large f at need (Free b ∷ cs) sound lt = search (arith, none_so_large f (at + (4 + length b)) need cs sound.1 lt)
-
 -- ---- table and tree with a record more
 
 slots_last : (at : ℕ) (cs : List Cell) (c : Cell) → slots_from at (cs ++ (c ∷ [])) ≡ slots_from at cs ++ (slot_of (end_place at cs, c) ∷ [])

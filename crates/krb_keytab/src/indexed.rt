@@ -30,6 +30,7 @@ use krb_walk::{Code, Fault};
 use krb_wire::{KtFormat, Name, NoMemory};
 use std::alloc::Allocator;
 use std::marker::Model;
+use std::ops::Deref;
 
 /// A keytab with a table of its cells and a tree over its holes. Contracts see the keytab.
 #[derive(Drop)]
@@ -50,6 +51,17 @@ impl<A: Allocator> Model for Indexed<A> {
 
     ghost invariant = { λ i. IsIndex i.keytab.state i.slots.items i.tree
         × HasSpare i.keytab.state (vec_len i.slots) (vec_capacity i.slots) i.tree };
+}
+
+// The calls that read a keytab read this one too.
+impl<A: Allocator> Deref for Indexed<A> {
+    type Target = Keytab<A>;
+
+    ghost deref_gives = { λ i k. k ≡ i };
+
+    fn deref(&self) -> &Keytab<A> {
+        &self.keytab
+    }
 }
 
 impl<A: Allocator> Indexed<A> {
@@ -86,23 +98,6 @@ impl<A: Allocator> Indexed<A> {
         keytab
     }
 
-    /// Returns its version, and for version 1 the byte order.
-    pub fn format(&self) -> KtFormat
-        ensures { result ≡ self.now.state.format }
-    {
-        self.keytab.format()
-    }
-
-    /// Returns the bytes that spell it.
-    pub fn image(&self) -> &[u8]
-        ensures spelled { result.now ≡ image_of self.now.state }
-        ensures bytes { AreBytes result.now }
-        ensures sound { IsSound self.now.state.format self.now.state.contents }
-        ensures reopens { Reopens self.now.state result.now }
-    {
-        self.keytab.image()
-    }
-
     /// Returns the bytes that spell it, without copying them.
     pub fn into_image(self) -> Vec<u8, A>
         ensures spelled { result.items ≡ image_of self.state }
@@ -112,19 +107,14 @@ impl<A: Allocator> Indexed<A> {
         self.into_keytab().into_image()
     }
 
-    /// Returns the fault after the last sound cell, or `None` if there is none.
-    pub fn fault(&self) -> Option<Fault>
-        ensures { result ≡ fault_of (store_of self.now.state) }
-    {
-        self.keytab.fault()
-    }
-
-    // Returns the number of cells.
+    // Returns the number of cells. They are sound.
     fn count(&self) -> usize
         ensures count { result ≡ length self.now.state.contents.cells }
         ensures few { result < 2 ^ 30 }
+        ensures sound { IsSound self.now.state.format self.now.state.contents }
     {
-        self.keytab.cell_count() as usize
+        let _ = self.image();
+        self.cell_count() as usize
     }
 
     // Returns the slot of the cell with this number.
@@ -144,7 +134,7 @@ impl<A: Allocator> Indexed<A> {
         if rank < self.count() {
             return self.slot(rank).place;
         }
-        self.keytab.end()
+        self.end()
     }
 
     // Returns how many cells start before `place`.
@@ -157,13 +147,13 @@ impl<A: Allocator> Indexed<A> {
 
     // Returns the number of the first cell that is a hole of at least `need` bytes, and how many nodes were read.
     #[tactic(auto, using(crate::proofs::Stores::state_is, crate::proofs::IndexLemmas::fit_is, crate::proofs::IndexLemmas::looks_are))]
-    fn fit(&self, need: u32) -> (Option<usize>, u32)
+    fn fit(&self, need: usize) -> (Option<usize>, u32)
         requires { 0 < need }
         ensures fit { IsFit self.now.state need result.0 }
         ensures looks { (height : ℕ) → IsHeightFor (length self.now.state.contents.cells) height
             → result.1 ≡ looks_for height result.0 }
     {
-        let _ = self.image();
+        let _sound = self.count();
         self.tree.first_fit(need)
     }
 
@@ -174,7 +164,7 @@ impl<A: Allocator> Indexed<A> {
         ensures looks { (height : ℕ) → IsHeightFor (length self.now.state.contents.cells) height
             → result.1 ≡ looks_for height result.0 }
     {
-        let (number, looks) = self.fit(need.max(1));
+        let (number, looks) = self.fit(need.max(1) as usize);
         match number {
             Some(number) => (Some(self.slot(number).place), looks),
             None => (None, looks),
@@ -186,7 +176,6 @@ impl<A: Allocator> Indexed<A> {
         ensures none { IfNone result (live_bytes (store_of self.now.state) place ≡ None) }
         ensures some { IfSome result (λ number. IsLiveNumber self.now.state place number) }
     {
-        let _ = self.image();
         let number = self.rank(place);
         if number >= self.count() {
             return None;
@@ -201,15 +190,6 @@ impl<A: Allocator> Indexed<A> {
         Some(number)
     }
 
-    /// Returns the bytes of the record at `place`, after its length: an entry, and what is after it.
-    pub fn bytes_at(&self, place: u32) -> &[u8]
-        requires { IsSome (live_bytes (store_of self.now.state) place) }
-        ensures bytes { live_bytes (store_of self.now.state) place ≡ Some result.now }
-        ensures entry { IsSome (entry_at self.now.state.format result.now) }
-    {
-        self.keytab.bytes_at(place)
-    }
-
     /// Returns the entry of the record at `place`, or `None` if no live cell starts there.
     pub fn entry_at(&self, place: u32) -> Option<EntryView<'_>>
         ensures none { IfNone result (live_bytes (store_of self.now.state) place ≡ None) }
@@ -219,18 +199,5 @@ impl<A: Allocator> Indexed<A> {
     {
         let _ = self.live_number(place)?;
         read_entry(self.format(), self.bytes_at(place))
-    }
-
-    /// Returns the first entry in file order with this name, kvno and enctype, with its place. Kvno 0 selects the
-    /// highest, enctype 0 any. A damaged keytab refuses. One pass, which takes no memory.
-    pub fn find<N: Name>(
-        &self,
-        name: &N,
-        kvno: u32,
-        enctype: u16,
-    ) -> Result<(u32, EntryView<'_>), Code>
-        ensures { result ≡ find_result self.now.state (N.parts name.now) kvno enctype }
-    {
-        self.keytab.find(name, kvno, enctype)
     }
 }

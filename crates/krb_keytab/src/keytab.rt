@@ -131,7 +131,7 @@ impl<A: Allocator> Keytab<A> {
 
     // Returns its cells, as a store.
     #[tactic(auto, using(crate::proofs::Stores::first_is_place))]
-    fn store(&self) -> Cells<'_, KnownFormat>
+    pub(crate) fn store(&self) -> Cells<'_, KnownFormat>
         ensures { result ≡ store_of self.now.state }
     {
         self.store_from(2)
@@ -151,14 +151,6 @@ impl<A: Allocator> Keytab<A> {
             format: self.format,
         };
         Cells::of(front, place as usize, cells, self.end.ending.kind())
-    }
-
-    /// Returns the place of the first cell: 2, after the version bytes.
-    pub fn first(&self) -> u32
-        ensures first { result ≡ (store_of self.now.state).first }
-        ensures sound { IsSoundStore (store_of self.now.state) }
-    {
-        self.store().first()
     }
 
     /// Returns the place after the last sound cell.
@@ -203,21 +195,6 @@ impl<A: Allocator> Keytab<A> {
         ensures { result ≡ cells_of self.now.state }
     {
         self.cells_in(self.format())
-    }
-
-    /// True if `place` is the place of a cell, live or free, or `end()`. Scans from the start.
-    pub fn is_place(&self, place: u32) -> bool
-        ensures { result ≡ is_place (store_of self.now.state) place }
-    {
-        self.store().is_place(place)
-    }
-
-    /// Returns the first live cell at or after `place`, or what ends the cells. Scans from `place` on.
-    pub fn stop_at(&self, place: u32) -> Stop
-        requires { IsPlace (store_of self.now.state) place }
-        ensures { result ≡ stop_at (store_of self.now.state) place }
-    {
-        self.store().stop_at(place)
     }
 
     /// Returns the bytes of the record at `place`, after its length: an entry, and what is after it.

@@ -18,7 +18,7 @@ impl<A: Allocator + Copy> Placed for Keytab<A> {
     ghost rules = { keytab_rules };
 
     fn first(&self) -> u32 {
-        self.first()
+        self.store().first()
     }
 
     fn end(&self) -> u32 {
@@ -30,11 +30,11 @@ impl<A: Allocator + Copy> Placed for Keytab<A> {
     }
 
     fn is_place(&self, place: u32) -> bool {
-        self.is_place(place)
+        self.store().is_place(place)
     }
 
     fn stop_at(&self, place: u32) -> Stop {
-        self.stop_at(place)
+        self.store().stop_at(place)
     }
 
     fn bytes_at(&self, place: u32) -> &[u8] {

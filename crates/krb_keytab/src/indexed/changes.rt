@@ -27,7 +27,7 @@ impl<A: Allocator> Indexed<A> {
         ensures freed { self.new.state ≡ with_hole self.old.state place }
         ensures room { self.new.room ≡ self.old.room }
     {
-        let _ = self.image();
+        let _sound = self.count();
         let hole = self.slot(number).negated();
         self.keytab.free(place);
         put_slot(&mut self.slots, &mut self.tree, number, hole);
@@ -41,7 +41,7 @@ impl<A: Allocator> Indexed<A> {
         ensures filled { self.new.state ≡ with_record_in self.old.state form.now.bytes result }
         ensures room { self.new.room ≡ self.old.room }
     {
-        let _ = self.image();
+        let _sound = self.count();
         let slot = self.slot(number);
         let hole = Hole {
             place: slot.place as usize,
@@ -74,35 +74,10 @@ impl<A: Allocator> Indexed<A> {
         Ok(place)
     }
 
-    // Returns the written form of an entry to add, or why it is refused.
-    fn form_of<'e, B: Allocator>(
-        &self,
-        entry: &'e NewEntry<B>,
-    ) -> Result<Form<'e, Principal<B>>, Code>
-        ensures numbers { IsEntry entry.now }
-        ensures ok { IfOk result (IsFormOf self.now.state entry.now) }
-        ensures err { IfErr result (λ code. put_result self.now.state entry.now ≡ Err code) }
-    {
-        self.keytab.form_of(entry)
-    }
-
-    // Returns the number of the first cell that is a hole of at least `need` bytes, or `None`.
-    fn number_for(&self, need: usize) -> Option<usize>
-        requires { 0 < need }
-        ensures { IsFit self.now.state need result }
-    {
-        let _ = self.image();
-        let Ok(need) = u32::try_from(need) else {
-            return None;
-        };
-        let (number, _) = self.fit(need);
-        number
-    }
-
     /// Adds an entry in the first hole that is large enough, found by the tree, or else after the cells, and returns
     /// its place. Refused, in this order: a damaged keytab, an entry with a part too long for its length, an image
     /// longer than the limit. Takes memory only if the image becomes longer, and all of it before anything is changed.
-    #[tactic(auto, using(crate::proofs::StoreChanges::placed_read, crate::proofs::StoreChanges::addition_read))]
+    #[tactic(auto, using(crate::proofs::StoreChanges::placed_read, crate::proofs::StoreChanges::addition_read, crate::proofs::Stores::state_is))]
     pub fn add<B: Allocator>(&mut self, entry: &NewEntry<B>) -> Result<u32, Refusal>
         ensures gives { PutGives (put_result self.old.state entry.now) self.old.state result self.new.state }
         ensures memory { takes_none self.old.state entry.now ≡ true → HadMemory result }
@@ -113,7 +88,7 @@ impl<A: Allocator> Indexed<A> {
         ensures numbers { IsEntry entry.now }
     {
         let form = self.form_of(entry)?;
-        let Some(number) = self.number_for(form.len()) else {
+        let Some(number) = self.fit(form.len()).0 else {
             return self.append(&form);
         };
         Ok(self.fill(number, &form))

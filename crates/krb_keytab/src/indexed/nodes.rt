@@ -72,14 +72,14 @@ pub fn put_leaf(nodes: &mut [u32], leaves: usize, leaf: usize, size: u32)
 
 // Returns the first child of a node with a leaf of at least `need` under it, if there is one. Reads only the left
 // child.
-fn child_with(nodes: &[u32], node: usize, need: u32, looks: &mut u32) -> usize
+fn child_with(nodes: &[u32], node: usize, need: usize, looks: &mut u32) -> usize
     requires there { 2 * node + 1 < length nodes.now }
     requires few { looks.old < 64 }
     ensures value { result ≡ child_with need node nodes.now }
     ensures counted { looks.new ≡ looks.old + 1 }
 {
     let left = 2 * node;
-    if need <= look(nodes, left, looks) {
+    if need <= look(nodes, left, looks) as usize {
         return left;
     }
     left + 1
@@ -87,13 +87,13 @@ fn child_with(nodes: &[u32], node: usize, need: u32, looks: &mut u32) -> usize
 
 /// Returns the first leaf of at least `need`, and how many nodes were read to find it: one on each level, since a
 /// right child is taken unread, or the root alone if there is no such leaf.
-pub fn first_leaf(nodes: &[u32], height: u32, need: u32) -> (Option<usize>, u32)
+pub fn first_leaf(nodes: &[u32], height: u32, need: usize) -> (Option<usize>, u32)
     requires { IsTree height nodes.now }
     ensures first { result.0 ≡ first_fit need (drop (2 ^ height) nodes.now) }
     ensures looks { result.1 ≡ looks_for height result.0 }
 {
     let mut looks = 0;
-    if look(nodes, 1, &mut looks) < need {
+    if (look(nodes, 1, &mut looks) as usize) < need {
         return (None, looks);
     }
     let mut node: usize = 1;

@@ -26,7 +26,7 @@ impl<A: Allocator + Copy> Placed for Indexed<A> {
     }
 
     fn fault(&self) -> Option<Fault> {
-        self.fault()
+        self.keytab.fault()
     }
 
     #[tactic(auto, using(crate::proofs::IndexLemmas::is_place_by_rank, crate::proofs::PlaceLemmas::places_len))]
@@ -39,7 +39,7 @@ impl<A: Allocator + Copy> Placed for Indexed<A> {
     }
 
     fn bytes_at(&self, place: u32) -> &[u8] {
-        self.bytes_at(place)
+        self.keytab.bytes_at(place)
     }
 
     fn put(&mut self, item: &NewEntry<A>) -> Result<u32, Refusal> {

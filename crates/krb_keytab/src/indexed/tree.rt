@@ -124,7 +124,7 @@ impl<A: Allocator> Tree<A> {
     }
 
     /// Returns the number of the first size of at least `need`, and how many nodes were read to find it.
-    pub fn first_fit(&self, need: u32) -> (Option<usize>, u32)
+    pub fn first_fit(&self, need: usize) -> (Option<usize>, u32)
         ensures first { result.0 ≡ first_fit need self.now.sizes }
         ensures looks { result.1 ≡ looks_for self.now.height result.0 }
     {

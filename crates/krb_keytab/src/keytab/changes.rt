@@ -6,7 +6,7 @@ ghost use Rattle.krb_walk.specs.Rules.{PutGives, CutGives};
 ghost use Rattle.krb_walk.specs.Events.{HadMemory};
 ghost use Rattle.krb_walk.specs.declared.refusal.Code.TheVariants.{Full};
 ghost use Rattle.krb_walk.specs.Store.{end_of, fault_of, live_bytes, IsPlace};
-ghost use Rattle.krb_keytab.specs.Store.{store_of, entry_at_place};
+ghost use Rattle.krb_keytab.specs.Store.{store_of, entry_at_place, KeytabState};
 ghost use Rattle.krb_keytab.specs.Form.{fits, read_back, IsEntry};
 ghost use Rattle.krb_keytab.specs.Changes.{AnswersRemove, append_result, cut_result, put_result, remove_result, takes_none, with_last, with_record_in, with_hole, hole_from, without, AnswersAppend, KeepsRoom, IsFormOf};
 
@@ -42,7 +42,7 @@ impl<A: Allocator> Keytab<A> {
         ensures gone { OnOk result (live_bytes (store_of self.new.state) place ≡ None) }
         ensures room { self.new.room ≡ self.old.room }
     {
-        let mut from = self.first();
+        let mut from = 2;
         self.remove_from(&mut from, place)
     }
 
@@ -53,7 +53,7 @@ impl<A: Allocator> Keytab<A> {
         ensures removed { self.new.state ≡ without self.old.state places.now }
         ensures room { self.new.room ≡ self.old.room }
     {
-        let mut from = self.first();
+        let mut from = 2;
         'places: for place in places {
             let _ = self.remove_from(&mut from, *place);
         }
@@ -148,8 +148,9 @@ impl<A: Allocator> Keytab<A> {
         entry: &'e NewEntry<B>,
     ) -> Result<Form<'e, Principal<B>>, Code>
         ensures numbers { IsEntry entry.now }
-        ensures ok { IfOk result (IsFormOf self.now.state entry.now) }
-        ensures err { IfErr result (λ code. put_result self.now.state entry.now ≡ Err code) }
+        ensures format { (k : KeytabState) → k ≡ self.now.state → IfOk result (λ form. form.format ≡ k.format) }
+        ensures ok { (k : KeytabState) → k ≡ self.now.state → IfOk result (IsFormOf k entry.now) }
+        ensures err { (k : KeytabState) → k ≡ self.now.state → IfErr result (λ code. put_result k entry.now ≡ Err code) }
     {
         let fields = entry.fields();
         fields.numbers_fit();

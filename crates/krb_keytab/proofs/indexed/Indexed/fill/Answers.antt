@@ -9,7 +9,7 @@ use Rattle.krb_keytab.proofs.indexed.Indexed.fill.Goals as goal
 pub negated-requires : goal.negated-requires
 negated-requires g c =
     let k = c.args.self.now.state in
-    let long = cell_field k c.args.number (slot_at k c.args.number).place _ c.image.ensures.sound (hole_at k (length c.args.form.now.bytes) c.args.number c.requires.hole).cell in
+    let long = cell_field k c.args.number (slot_at k c.args.number).place _ c.count-sound.ensures.sound (hole_at k (length c.args.form.now.bytes) c.args.number c.requires.hole).cell in
     omega (arith, long, ap (λ (s : Slot). s.field) c.slot-slot.ensures)
 
 pub invariant_of-self : goal.invariant_of-self
@@ -25,6 +25,6 @@ invariant_of-self g c =
     let put = c.put_slot.new in
     let sizes : put.tree.sizes ≡ set i.tree.sizes n (free_size (negated (slot_at k n))) = c.put_slot.ensures.sizes ∙ ap (λ (x : Slot). set i.tree.sizes n (free_size x)) slot in
     let slots : put.slots.items ≡ set i.slots.items n (negated (slot_at k n)) = c.put_slot.ensures.slots ∙ ap (set i.slots.items n) slot in
-    let done = filled_kept k i.slots.items i.tree put.tree (vec_len i.slots) (vec_capacity i.slots) n bytes c.image.ensures.sound c.requires.hole kept sizes c.put_slot.ensures.height c.put_slot.ensures.node_room in
+    let done = filled_kept k i.slots.items i.tree put.tree (vec_len i.slots) (vec_capacity i.slots) n bytes c.count-sound.ensures.sound c.requires.hole kept sizes c.put_slot.ensures.height c.put_slot.ensures.node_room in
     let same = subst (λ (y : KeytabState). IsKept y (set i.slots.items n (negated (slot_at k n))) (vec_len i.slots) (vec_capacity i.slots) put.tree) state done in
     rw (slots, c.put_slot.ensures.len, c.put_slot.ensures.slot_room) same

@@ -7,7 +7,7 @@ use Rattle.krb_keytab.proofs.indexed.Indexed.free.Goals as goal
 
 pub negated-hole-requires : goal.negated-hole-requires
 negated-hole-requires g c =
-    let long = cell_field c.args.self.now.state c.args.number c.args.place _ c.image.ensures.sound (live_at c.args.self.now.state c.args.number c.args.place c.requires).cell in
+    let long = cell_field c.args.self.now.state c.args.number c.args.place _ c.count-sound.ensures.sound (live_at c.args.self.now.state c.args.number c.args.place c.requires).cell in
     omega (arith, long, ap (λ (s : Slot). s.field) c.slot.ensures)
 
 pub free-requires : goal.free-requires
