@@ -4,11 +4,11 @@ pub use Rattle.std.proofs.Math.ListN.{set, drop_of_length-le}
 pub use Rattle.std.proofs.Math.Nat.{pow-suc, mul-le-mul_left, pow-succ'}
 pub use Rattle.std.proofs.lemmas.Bool.{cases_lt, lt-ltb, le-ltb, ne_eqb, leb-true, ltb-true, eqb-true, lt-leb, ltb-false, cases_Bool, and_right, OnTrue_from, le-leb, true≢false, OnFalse_from, leb-false, false_from_ne_true, OnTrue_at}
 pub use Rattle.std.proofs.lemmas.Bool.Decides.{eqb_tells, leb_tells, Decides-eqb, nat_tests}
-pub use Rattle.std.proofs.lemmas.List.{take_at, length-take, append-nil, length-map, length-replicate, drop_at, length-drop, map-append, take-append-drop, drop-drop, take_all, drop-take, drop-append-le, set-append_left, map-set, get_or-drop, drop-replicate, get_or-map, replicate-append-replicate, drop_all, get_or_default, get_or_past, length-set}
+pub use Rattle.std.proofs.lemmas.List.{take_at, length-take, append-nil, length-map, length-replicate, drop_at, length-drop, map-append, take-append-drop, drop-drop, take_all, drop-append-le, set-append_left, map-set, get_or-drop, drop-replicate, get_or-map, replicate-append-replicate, drop_all, get_or_default, get_or_past, length-set}
 pub use Rattle.std.proofs.lemmas.List.Concat.{flat_map-cons}
 pub use Rattle.std.specs.Int.{w32, w16}
 pub use Rattle.std.specs.List.{flat_map, AllByRecursion, splice, filter_map, cons_option, starts_with, position_from}
-pub use Rattle.std.specs.Prelude.{is_some, IsSome, ◌==◌, option_map, ◌&&◌, nat_lt, slice_index, IfSome, filter, nat_le, max, find, if◌then◌else◌, nat_eq, ⊤, OnOk, IfOk, IfNone, IfErr, ◌||◌}
+pub use Rattle.std.specs.Prelude.{is_some, IsSome, ◌==◌, option_map, ◌&&◌, nat_lt, slice_index, IfSome, filter, nat_le, max, find, if◌then◌else◌, nat_eq, ⊤, OnOk, IfOk, IfNone, ◌||◌}
 pub use Rattle.krb_keytab.specs.CellViews.{CellsFrom, IsFirst, BeginsWith, cells_of, IsCellOrNothing, cell_of}
 pub use Rattle.krb_keytab.specs.Cells.{Live, Cell, cell, Free, IsCell, Contents, end_bytes, IsSound, size, kind_of, Bare, End, length_field, bytes_of, spelling, cell_in, length_of_cell, IsSpelled, IsEnd, image, keytab_format, short_end, next_of_length, next_by, size_of, length_of, HasField, field_of}
 unfoldable pub use Rattle.krb_keytab.specs.Cells.{contents, next}
@@ -31,7 +31,7 @@ pub use Rattle.krb_keytab.specs.declared.image.Ending.{Ending}
 pub use Rattle.krb_keytab.specs.declared.indexed.slot.Slot.{Slot}
 pub use Rattle.krb_keytab.specs.declared.length.Length.{Length}
 pub use Rattle.krb_walk.proofs.Places.{cuts-extends, place_kept, place_first}
-pub use Rattle.krb_walk.proofs.Stops.{bytes_from, end_from-ge, records_of, is_place_from-cons}
+pub use Rattle.krb_walk.proofs.Stops.{bytes_from, end_from-ge, records_of}
 pub use Rattle.krb_walk.specs.Ranks.{Rewrites, carry}
 pub use Rattle.krb_walk.specs.Store.{end_of, live_bytes, fault_of, IsPlace, is_place, Record, Store, records, standing, bytes_of_some, record_of, record_of_some}
 pub use Rattle.krb_wire.proofs.Fields.{IsBytes, wide32, some_is, IsBytes-drop, is_some_has, number_takes, wide16, number_again, bind_some, Takes-then, data16_takes, Takes, IsBytes-take, data16_again, IsBytes-back, IsBytes-front, byte_takes, ok_is}
@@ -46,7 +46,7 @@ pub use Rattle.krb_wire.specs.declared.format.KtFormat.{KtFormat}
 pub use Rattle.krb_wire.specs.declared.format.KtFormat.TheVariants.{V2}
 pub use Rattle.krb_wire.specs.declared.format.Order.{Order}
 pub use Rattle.krb_wire.specs.declared.format.Order.TheVariants.{Big}
-pub use Rattle.krb_cells.proofs.Cuts.{cut_held, holds_from, is_from, live_is_place}
+pub use Rattle.krb_cells.proofs.Cuts.{live_is_place}
 pub use Rattle.krb_cells.specs.Contents.{More, NoMore}
 pub use Rattle.krb_walk.proofs.Splits.{bytes_ahead, bytes_here, whole_of}
 pub use Rattle.krb_walk.specs.declared.refusal.Code.{Code}

@@ -1,6 +1,6 @@
 -- Where cells end, and what a store has there.
-use Rattle.krb_keytab.proofs.Cited.{◌≡◌, ℕ, ◌+◌, ◌*◌, ◌<◌, ◌≤◌, false, eqb, List, [], ◌∷◌, ◌++◌, map, length, None, refl, sym, ap, ◌∙◌, length-append, arith, w32, flat_map, AllByRecursion, ne_eqb, map-append, Order, digits, wide32, bytes_from, Cell, bytes_of, length_field, cell, size, store_cell, live_of, end_place, bytes_here}
-use Rattle.krb_walk.specs.Store.{Cell as StoreCell, Store, live_bytes}
+use Rattle.krb_keytab.proofs.Cited.{◌≡◌, ℕ, ◌+◌, ◌*◌, ◌<◌, ◌≤◌, List, [], ◌∷◌, ◌++◌, map, length, refl, length-append, arith, w32, flat_map, AllByRecursion, map-append, Order, digits, wide32, bytes_from, Cell, bytes_of, length_field, cell, size, store_cell, live_of, end_place, bytes_here}
+use Rattle.krb_walk.specs.Store.{Cell as StoreCell}
 
 pub cell_len : (o : Order) (c : Cell) → length (cell o c) ≡ 4 + size c
 cell_len o c = omega (arith, length-append (digits o w32 (length_field c)) (bytes_of c), (wide32 o).len (length_field c))
@@ -24,15 +24,6 @@ places_for (c ∷ cs) at = let h = places_for cs (at + (4 + size c)) in omega (a
 pub store_sound : (cs : List Cell) → AllByRecursion (λ (c : StoreCell). 0 < c.width) (map store_cell cs)
 store_sound [] = tt
 store_sound (c ∷ cs) = (omega arith, store_sound cs)
-
--- no record starts before the first cell
-none_before : (at p : ℕ) (cells : List StoreCell) → p < at → bytes_from at cells p ≡ None
-none_before at p [] lt = refl
-none_before at p (c ∷ cells) lt = let no : eqb at p ≡ false = ne_eqb at p (λ e. omega arith) in rw no (none_before (at + c.width) p cells (omega arith))
-
--- nor inside it
-pub none_inside : (s : Store) (c : StoreCell) (cells : List StoreCell) (at p : ℕ) → at ≡ s.first → s.cells ≡ c ∷ cells → p < at + c.width → (at ≡ p → ⊥) → live_bytes s p ≡ None
-none_inside s c cells at p first is lt other = ap (λ (n : ℕ). bytes_from n s.cells p) (sym first) ∙ ap (λ (cs : List StoreCell). bytes_from at cs p) is ∙ rw (ne_eqb at p other) (none_before (at + c.width) p cells lt)
 
 -- where the cells before a cell end, the store has the bytes of that cell
 pub live_there : (front back : List Cell) (c : Cell) (p : ℕ) → p ≡ end_place 2 front → bytes_from 2 (map store_cell (front ++ (c ∷ back))) p ≡ live_of c

@@ -1,5 +1,5 @@
 -- A table and a tree when one more cell is added after the others.
-use Rattle.krb_keytab.proofs.Cited.{◌≡◌, ℕ, ◌+◌, ◌-◌, ◌*◌, ◌^◌, ◌<◌, ◌≤◌, false, List, [], ◌∷◌, ◌++◌, length, map, replicate, None, Ok, refl, sym, ap, subst, ◌∙◌, arith, inl, inr, append_assoc, length-append, is_some, AllByRecursion, pow-suc, cases_lt, append-nil, map-append, replicate-append-replicate, KtFormat, length_of, Order, order_of, end_of, fault_of, fits, hole_from, with_last, end_after, append_result, Cell, Live, Free, End, IsCell, end_bytes, kind_of, KeytabState, image_of, store_of, end_place, Slot, free_size, room_of, slots_from, slot_of, SizeTree, IsHeightFor, HasRoomFor, IsGrown, IsIndex, HasSpare, nat_tests, pow_mono, pow_pos, ok_is, whole_of}
+use Rattle.krb_keytab.proofs.Cited.{◌≡◌, ℕ, ◌+◌, ◌-◌, ◌*◌, ◌^◌, ◌<◌, ◌≤◌, false, List, [], ◌∷◌, ◌++◌, length, map, replicate, None, Ok, refl, sym, ap, subst, ◌∙◌, arith, inl, inr, append_assoc, length-append, is_some, pow-suc, cases_lt, append-nil, map-append, replicate-append-replicate, length_of, Order, order_of, end_of, fault_of, fits, with_last, end_after, append_result, Cell, Live, End, end_bytes, kind_of, KeytabState, image_of, store_of, end_place, Slot, free_size, room_of, slots_from, slot_of, SizeTree, IsHeightFor, HasRoomFor, IsGrown, IsIndex, HasSpare, nat_tests, pow_mono, pow_pos, ok_is, whole_of}
 use Rattle.krb_keytab.specs.Cells as cells
 use Rattle.krb_keytab.proofs.ChangeLemmas.{IsKept, image_len}
 use Rattle.krb_keytab.proofs.Cuts.{end_place-append}

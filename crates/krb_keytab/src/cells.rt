@@ -1,8 +1,7 @@
 //! The cells of an image, in order.
 
-ghost use Rattle.std.specs.Prelude.{◌≡◌, ◌≤◌, ◌^◌, ◌+◌, [], IfSome, IfNone, is_some, option_copied};
+ghost use Rattle.std.specs.Prelude.{◌≡◌, ◌≤◌, ◌^◌, ◌+◌, [], IfSome, IfNone, option_copied};
 ghost use Rattle.std.specs.Iterator.{item_count};
-ghost use Rattle.krb_walk.specs.Store.{live_bytes, IsPlace};
 ghost use Rattle.krb_keytab.specs.Cells.{bytes_of, cell_in, contents, size};
 ghost use Rattle.krb_keytab.specs.CellViews.{cell_of, GivesCell, IsCellOrNothing, IsFirst};
 ghost use Rattle.krb_keytab.specs.Changes.{hole_from};
@@ -11,7 +10,7 @@ ghost use Rattle.krb_keytab.specs.Store.{live_of};
 use crate::image::CellsEnd;
 use crate::length::Length;
 use crate::put::bytes_fit;
-use krb_cells::{CellFormat, CellView, Cells};
+use krb_cells::{CellFormat, CellView};
 use krb_wire::{KtFormat, split_u32, tail};
 use std::marker::Model;
 
@@ -157,24 +156,6 @@ pub fn first_hole(cells: CellViews<'_>, need: usize) -> Option<Hole>
         }
     }
     None
-}
-
-/// Returns the place of the first cell that ends after `place`, or else of the end; and whether a record starts at
-/// `place`.
-pub fn look_for(cells: Cells<'_, KnownFormat>, place: u32) -> (u32, bool)
-    ensures at { IsPlace cells.entry result.0 }
-    ensures live { result.1 ≡ is_some (live_bytes cells.entry place) }
-{
-    let mut rest = cells;
-    'cells: loop {
-        let at = rest.first();
-        let Some((_, cell)) = rest.next() else {
-            return (at, false);
-        };
-        if place < rest.first() {
-            return (at, at == place && cell.live.is_some());
-        }
-    }
 }
 
 /// The format of an image whose entries were read before, for `Cells`: it finds each cell by its length alone.

@@ -3,9 +3,9 @@
 mod changes;
 mod rewrite;
 
-ghost use Rattle.std.specs.Prelude.{◌≡◌, ℕ, IsSome, IfOk, IfErr, IfSome, IfNone, Ok, Err, Some, None, ◌<◌, ◌≤◌, ◌-◌, ◌^◌, length, drop, vec_capacity};
+ghost use Rattle.std.specs.Prelude.{◌≡◌, IsSome, IfOk, IfErr, IfSome, IfNone, Ok, Err, Some, None, ◌<◌, ◌^◌, length, drop, vec_capacity};
 ghost use Rattle.krb_wire.specs.Reading.{Gives};
-ghost use Rattle.krb_walk.specs.Store.{end_of, fault_of, is_place, stop_at, live_bytes, IsPlace, IsSound as IsSoundStore};
+ghost use Rattle.krb_walk.specs.Store.{end_of, fault_of, live_bytes};
 ghost use Rattle.krb_keytab.specs.Entry.{entry_at, Spells};
 ghost use Rattle.krb_keytab.specs.Cells.{contents, IsSound};
 ghost use Rattle.krb_keytab.specs.CellViews.{cells_of};
@@ -21,7 +21,7 @@ use crate::image::{CellsEnd, end_of_cells, spelled_of};
 use crate::open::{KtOpenRefused, read_head};
 use crate::put::bytes_fit;
 use krb_cells::{Cells, part};
-use krb_walk::{Fault, Stop};
+use krb_walk::Fault;
 use krb_wire::{KtFormat, Limits, NoMemory, Order};
 use std::alloc::Allocator;
 use std::marker::Model;
@@ -130,27 +130,16 @@ impl<A: Allocator> Keytab<A> {
     }
 
     // Returns its cells, as a store.
-    #[tactic(auto, using(crate::proofs::Stores::first_is_place))]
     pub(crate) fn store(&self) -> Cells<'_, KnownFormat>
         ensures { result ≡ store_of self.now.state }
     {
-        self.store_from(2)
-    }
-
-    // Returns the cells from `place` on, as a store: there it agrees with that of all cells.
-    fn store_from(&self, place: u32) -> Cells<'_, KnownFormat>
-        requires { IsPlace (store_of self.now.state) place }
-        ensures places { (q : ℕ) → IsPlace result q → IsPlace (store_of self.now.state) q }
-        ensures bytes { (q : ℕ) → place ≤ q → live_bytes result q ≡ live_bytes (store_of self.now.state) q }
-        ensures all { place ≡ 2 → result ≡ store_of self.now.state }
-    {
         let image: &[u8] = &self.image;
         bytes_fit(image);
-        let cells = part(image, place as usize, self.end.place);
+        let cells = part(image, 2, self.end.place);
         let front = KnownFormat {
             format: self.format,
         };
-        Cells::of(front, place as usize, cells, self.end.ending.kind())
+        Cells::of(front, 2, cells, self.end.ending.kind())
     }
 
     /// Returns the place after the last sound cell.

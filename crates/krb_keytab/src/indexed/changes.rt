@@ -1,12 +1,12 @@
 //! Changes to a keytab and its table, each of one cell.
 
-ghost use Rattle.std.specs.Prelude.{◌≡◌, ◌<◌, true, length, is_some, Some, None, Err, IfOk, IfErr, OnOk};
+ghost use Rattle.std.specs.Prelude.{◌≡◌, true, length, Some, None, IfOk, OnOk};
 ghost use Rattle.krb_walk.specs.Rules.{PutGives, CutGives};
 ghost use Rattle.krb_walk.specs.Events.{HadMemory};
 ghost use Rattle.krb_walk.specs.Store.{fault_of, live_bytes};
 ghost use Rattle.krb_keytab.specs.Store.{store_of, entry_at_place};
 ghost use Rattle.krb_keytab.specs.Form.{read_back, IsEntry};
-ghost use Rattle.krb_keytab.specs.Changes.{cut_result, put_result, remove_result, takes_none, with_hole, with_record_in, AnswersRemove, AnswersAppend, KeepsRoom, IsFormOf};
+ghost use Rattle.krb_keytab.specs.Changes.{cut_result, put_result, remove_result, takes_none, with_hole, with_record_in, AnswersRemove, AnswersAppend, KeepsRoom};
 ghost use Rattle.krb_keytab.specs.Index.{slot_at, IsFit, IsLiveNumber};
 
 use super::Indexed;
@@ -17,7 +17,7 @@ use crate::indexed::slot::Slot;
 use crate::length::Length;
 use crate::new_entry::NewEntry;
 use krb_walk::{Code, Refusal};
-use krb_wire::{Name, Principal};
+use krb_wire::Name;
 use std::alloc::Allocator;
 
 impl<A: Allocator> Indexed<A> {

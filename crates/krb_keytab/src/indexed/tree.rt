@@ -1,6 +1,6 @@
 //! A tree over a list of sizes.
 
-ghost use Rattle.std.specs.Prelude.{◌≡◌, ◌<◌, ◌≤◌, ◌+◌, ◌-◌, ◌*◌, ◌^◌, ◌++◌, [], length, map, drop, take, replicate, slice_set, IfOk, IsOk, OnOk, vec_len, vec_capacity};
+ghost use Rattle.std.specs.Prelude.{◌≡◌, ◌<◌, ◌≤◌, ◌+◌, ◌-◌, ◌*◌, ◌^◌, ◌++◌, length, map, drop, take, replicate, slice_set, IfOk, IsOk, OnOk, vec_len, vec_capacity};
 ghost use Rattle.krb_keytab.specs.Nodes.{AreNodes};
 ghost use Rattle.krb_keytab.specs.Slot.{free_size};
 ghost use Rattle.krb_keytab.specs.Tree.{first_fit, looks_for, IsHeightFor, HasRoomFor};
@@ -58,26 +58,15 @@ fn put_sizes(sizes: &mut [u32], slots: &[Slot])
     }
 }
 
-// Appends `len` zeros to an empty `Vec` that has room for them.
-fn make_zeros<A: Allocator>(nodes: &mut Vec<u32, A>, len: usize)
-    requires empty { nodes.old.items ≡ [] }
-    requires room { len ≤ vec_capacity nodes.old }
-    ensures items { nodes.new.items ≡ replicate len 0 }
-    ensures len { vec_len nodes.new ≡ len }
+// Appends `more` zeros. There is room for them.
+fn add_zeros<A: Allocator>(nodes: &mut Vec<u32, A>, more: usize)
+    requires room { vec_len nodes.old + more ≤ vec_capacity nodes.old }
+    ensures items { nodes.new.items ≡ nodes.old.items ++ replicate more 0 }
+    ensures len { vec_len nodes.new ≡ vec_len nodes.old + more }
     ensures room { vec_capacity nodes.old ≤ vec_capacity nodes.new }
 {
+    let len = nodes.len() + more;
     let _ = nodes.resize(len, 0);
-}
-
-// Appends twice as many zeros as there are leaves. There is room for them.
-fn append_zeros<A: Allocator>(nodes: &mut Vec<u32, A>, leaves: usize)
-    requires len { vec_len nodes.old ≡ 2 * leaves }
-    requires room { 4 * leaves ≤ vec_capacity nodes.old }
-    ensures items { nodes.new.items ≡ nodes.old.items ++ replicate (2 * leaves) 0 }
-    ensures len { vec_len nodes.new ≡ 4 * leaves }
-    ensures room { vec_capacity nodes.old ≤ vec_capacity nodes.new }
-{
-    let _ = nodes.resize(4 * leaves, 0);
 }
 
 // Turns the tree at the front of the nodes into one with twice as many leaves.
@@ -105,7 +94,7 @@ impl<A: Allocator> Tree<A> {
         let height = height_for(slots.len());
         let more = height_for(slots.len() + 1);
         let mut nodes = Vec::with_capacity(alloc, 2 * more.leaves)?;
-        make_zeros(&mut nodes, 2 * height.leaves);
+        add_zeros(&mut nodes, 2 * height.leaves);
         put_leaves(&mut nodes, height.leaves, slots);
         Ok(Tree {
             nodes,
@@ -168,7 +157,7 @@ impl<A: Allocator> Tree<A> {
         ensures room { self.old.room ≤ self.new.room }
     {
         let leaves = self.leaves();
-        append_zeros(&mut self.nodes, leaves);
+        add_zeros(&mut self.nodes, 2 * leaves);
         spread(&mut self.nodes, leaves);
         self.height += 1;
     }

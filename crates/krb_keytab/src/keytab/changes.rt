@@ -12,7 +12,7 @@ ghost use Rattle.krb_keytab.specs.Changes.{AnswersRemove, append_result, cut_res
 
 use super::Keytab;
 use crate::append::{append_record, len_with};
-use crate::cells::{Hole, first_hole, look_for};
+use crate::cells::{Hole, first_hole};
 use crate::form::Form;
 use crate::image::spelled_of;
 use crate::new_entry::NewEntry;
@@ -47,7 +47,7 @@ impl<A: Allocator> Keytab<A> {
     }
 
     /// Removes the record at each place in turn, as `remove_at` does; a place that is refused changes nothing.
-    /// Ascending places take one pass over the cells.
+    /// Ascending places of records take one pass over the cells.
     #[tactic(auto, using(crate::proofs::Stores::first_is_place))]
     pub fn remove_all(&mut self, places: &[u32])
         ensures removed { self.new.state ≡ without self.old.state places.now }
@@ -59,7 +59,7 @@ impl<A: Allocator> Keytab<A> {
         }
     }
 
-    // Like `remove_at`. The scan for `place` starts at `from`, and sets it to where the next scan may start.
+    // Like `remove_at`. The scan for `place` starts at `from`, unless that is after it, and sets it to a removed record.
     fn remove_from(&mut self, from: &mut u32, place: u32) -> Result<(), Code>
         requires { IsPlace (store_of self.old.state) from.old }
         ensures gives { CutGives (cut_result self.old.state place) self.old.state result self.new.state }
@@ -69,25 +69,24 @@ impl<A: Allocator> Keytab<A> {
         if self.fault().is_some() {
             return Err(Code::Damaged);
         }
-        let (at, is_live) = self.look(*from, place);
-        *from = at;
-        if !is_live {
+        if !self.is_live(*from, place) {
             return Err(Code::NotLive);
         }
         self.free(place);
+        *from = place;
         Ok(())
     }
 
-    // Like `look_for`, from the cell at `from` on, or from the start if `place` is before it.
-    fn look(&self, from: u32, place: u32) -> (u32, bool)
+    // True if a record starts at `place`. Scans from `from` on, or from the start if `place` is before it.
+    fn is_live(&self, from: u32, place: u32) -> bool
         requires { IsPlace (store_of self.now.state) from }
-        ensures at { IsPlace (store_of self.now.state) result.0 }
-        ensures live { result.1 ≡ is_some (live_bytes (store_of self.now.state) place) }
+        ensures { result ≡ is_some (live_bytes (store_of self.now.state) place) }
     {
+        let cells = self.store();
         if place < from {
-            return look_for(self.store(), place);
+            return cells.find_live(place).is_some();
         }
-        look_for(self.store_from(from), place)
+        cells.from(from).find_live(place).is_some()
     }
 
     /// Removes the record that `find` returns for the same arguments, and returns its place. Refuses as `find` does.
@@ -148,6 +147,7 @@ impl<A: Allocator> Keytab<A> {
         entry: &'e NewEntry<B>,
     ) -> Result<Form<'e, Principal<B>>, Code>
         ensures numbers { IsEntry entry.now }
+        // Of each state that equals this one: an `Indexed` has its own.
         ensures format { (k : KeytabState) → k ≡ self.now.state → IfOk result (λ form. form.format ≡ k.format) }
         ensures ok { (k : KeytabState) → k ≡ self.now.state → IfOk result (IsFormOf k entry.now) }
         ensures err { (k : KeytabState) → k ≡ self.now.state → IfErr result (λ code. put_result k entry.now ≡ Err code) }

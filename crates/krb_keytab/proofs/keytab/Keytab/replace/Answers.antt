@@ -1,12 +1,12 @@
 use Rattle.krb_keytab.proofs.Cited.{◌∙◌, map, None, refl, sym, ap, subst, AllByRecursion, IsBytes, Store, IsPlace, carry, Rewrites, InMemory, store_of}
-use Rattle.krb_keytab.proofs.Stores.{state_is, first_is_place}
-use Rattle.krb_keytab.proofs.ImageStores.{held_from}
+use Rattle.krb_keytab.proofs.Stores.{state_is}
+use Rattle.krb_keytab.proofs.ImageStores.{all_held}
 use Rattle.krb_keytab.proofs.keytab.Keytab.replace.Goals as goal
 
 pub carry_to-requires : goal.carry_to-requires
 carry_to-requires g c =
-    let o = held_from _ _ _ c.deref_mut.result.now _ _ c.args.self.now.state 2 c.deref_mut.ensures.value (subst IsBytes c.deref.ensures.value c.bytes_fit.ensures) c.self.invariant.0 c.self.invariant.1 (state_is c.self.view_is) (first_is_place c.args.self.now.state 2 refl) refl in
-    let store = o.all None refl (sym c.requires.rewrites.whole) in
+    let o = all_held _ _ _ c.deref_mut.result.now _ _ c.args.self.now.state c.deref_mut.ensures.value (subst IsBytes c.deref.ensures.value c.bytes_fit.ensures) c.self.invariant.0 c.self.invariant.1 (state_is c.self.view_is) refl in
+    let store = o.store None (sym c.requires.rewrites.whole) in
     record {
       ahead = o.ahead;
       within = o.within;
@@ -17,7 +17,7 @@ carry_to-requires g c =
 
 pub returns-clause-carries : goal.returns-clause-carries
 returns-clause-carries g c =
-    let o = held_from _ _ _ c.deref_mut.result.now _ _ c.args.self.now.state 2 c.deref_mut.ensures.value (subst IsBytes c.deref.ensures.value c.bytes_fit.ensures) c.self.invariant.0 c.self.invariant.1 (state_is c.self.view_is) (first_is_place c.args.self.now.state 2 refl) refl in
-    let store = o.all None refl (sym c.requires.rewrites.whole) in
+    let o = all_held _ _ _ c.deref_mut.result.now _ _ c.args.self.now.state c.deref_mut.ensures.value (subst IsBytes c.deref.ensures.value c.bytes_fit.ensures) c.self.invariant.0 c.self.invariant.1 (state_is c.self.view_is) refl in
+    let store = o.store None (sym c.requires.rewrites.whole) in
     c.carry_to.ensures ∙ ap (λ (s : Store). map (carry s c.store.result) c.args.cursors.now) store
     ∙ ap (λ (s : Store). map (carry (store_of c.args.self.now.state) s) c.args.cursors.now) (c.store.ensures ∙ ap (λ (k : InMemory). store_of k.state) (sym c.drop.view_is))

@@ -10,4 +10,4 @@ returns-clause-sizes g c =
     let sizes : c.args.self.now.sizes ≡ drop c.leaves-leaves.result c.self.inside.nodes.items =
     sym (ap (λ (t : SizeTree). t.sizes) c.self.view_is) ∙ ap (λ n. drop n c.self.inside.nodes.items) (sym power) in
     let len : length c.self.inside.nodes.items ≡ 2 * c.leaves-leaves.result = c.self.invariant.len ∙ ap (λ n. 2 * n) (sym power) in
-    doubled _ _ _ _ _ _ _ _ _ power sizes len c.append_zeros.ensures.items c.deref_mut.ensures.value c.spread.ensures.len c.deref_mut.ensures.len c.spread.ensures.leaves
+    doubled _ _ _ _ _ _ _ _ _ power sizes len c.add_zeros.ensures.items c.deref_mut.ensures.value c.spread.ensures.len c.deref_mut.ensures.len c.spread.ensures.leaves
