@@ -5,8 +5,8 @@ mod rewrite;
 mod settings;
 mod view;
 
-ghost use Rattle.std.specs.Prelude.{◌≡◌, IsSome, IfOk, IfErr, IfSome, IfNone, Ok, Err, Some, None, option_copied, vec_capacity};
-ghost use Rattle.krb_walk.specs.Store.{end_of, fault_of, is_place, stop_at, live_bytes, IsPlace, IsSound as IsSoundStore};
+ghost use Rattle.std.specs.Prelude.{◌≡◌, IfOk, IfErr, IfSome, IfNone, Ok, Err, Some, None, option_copied, vec_capacity};
+ghost use Rattle.krb_walk.specs.Store.{end_of, fault_of, live_bytes};
 ghost use Rattle.krb_ccache.specs.Credential.{credential};
 ghost use Rattle.krb_ccache.specs.Header.{offset_in};
 ghost use Rattle.krb_ccache.specs.Store.{open_result, image_of, store_of, placed_credentials, credential_at_place};
@@ -21,7 +21,7 @@ use crate::credentials::Credentials;
 use crate::offset::Offset;
 use crate::open::{CcOpenRefused, Layout, as_spelling, read_layout};
 use crate::version::Version;
-use krb_walk::{Fault, Stop};
+use krb_walk::Fault;
 use krb_wire::{Limits, PrincipalView};
 use std::alloc::Allocator;
 use std::marker::Model;
@@ -130,14 +130,6 @@ impl<A: Allocator> Ccache<A> {
         self.view().offset()
     }
 
-    /// Returns the place after the default principal.
-    pub fn first(&self) -> u32
-        ensures first { result ≡ (store_of self.now.state).first }
-        ensures sound { IsSoundStore (store_of self.now.state) }
-    {
-        self.view().cells().first()
-    }
-
     /// Returns the place after the last credential.
     pub fn end(&self) -> u32
         ensures { result ≡ end_of (store_of self.now.state) }
@@ -150,29 +142,6 @@ impl<A: Allocator> Ccache<A> {
         ensures { result ≡ fault_of (store_of self.now.state) }
     {
         self.view().cells().fault()
-    }
-
-    /// Returns whether `place` is that of a credential, removed ones too, or `end()`. Scans from the start.
-    pub fn is_place(&self, place: u32) -> bool
-        ensures { result ≡ is_place (store_of self.now.state) place }
-    {
-        self.view().cells().is_place(place)
-    }
-
-    /// Returns the first live credential at or after `place`, or what ends the credentials. Scans from `place`.
-    pub fn stop_at(&self, place: u32) -> Stop
-        requires { IsPlace (store_of self.now.state) place }
-        ensures { result ≡ stop_at (store_of self.now.state) place }
-    {
-        self.view().cells().stop_at(place)
-    }
-
-    /// Returns the bytes of the live credential at `place`. Reads that one only.
-    pub fn bytes_at(&self, place: u32) -> &[u8]
-        requires { IsSome (live_bytes (store_of self.now.state) place) }
-        ensures { live_bytes (store_of self.now.state) place ≡ Some result.now }
-    {
-        self.view().cells().bytes_at(place)
     }
 
     /// Returns an iterator over the live credentials with their places, in file order, up to the end or the fault.

@@ -18,7 +18,7 @@ impl<A: Allocator + Copy> Placed for Ccache<A> {
     ghost rules = { cache_rules };
 
     fn first(&self) -> u32 {
-        self.first()
+        self.view().cells().first()
     }
 
     fn end(&self) -> u32 {
@@ -30,15 +30,15 @@ impl<A: Allocator + Copy> Placed for Ccache<A> {
     }
 
     fn is_place(&self, place: u32) -> bool {
-        self.is_place(place)
+        self.view().cells().is_place(place)
     }
 
     fn stop_at(&self, place: u32) -> Stop {
-        self.stop_at(place)
+        self.view().cells().stop_at(place)
     }
 
     fn bytes_at(&self, place: u32) -> &[u8] {
-        self.bytes_at(place)
+        self.view().cells().bytes_at(place)
     }
 
     fn put(&mut self, item: &Cred<A>) -> Result<u32, Refusal> {

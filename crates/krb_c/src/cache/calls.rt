@@ -22,6 +22,7 @@ use crate::cache::looks::{KrbfTicket, config, copy_client_at, copy_server_at, fi
 use crate::handle::{KrbfCcache, with_held};
 use crate::status::{DONE, kind_of};
 use crate::text::{KrbfBytes, bytes_of, copy_name};
+use krb_walk::Placed;
 use std::alloc::Global;
 
 /// Copies the default principal's text into the buffer `room`, as much as fits, and reports the length of the text.

@@ -16,7 +16,7 @@ use crate::status::{DONE, of_code};
 use crate::text::{KrbfBytes, bytes_of, copy_name, read_name};
 use crate::walked::Records;
 use krb_ccache::{Ccache, CredView, is_config, read_credential};
-use krb_walk::Code;
+use krb_walk::{Code, Placed};
 use krb_wire::{Principal, same_name};
 use std::alloc::Global;
 

@@ -3,7 +3,7 @@
 use super::in_each_heap;
 use super::made::{HIGH_KEY, name_of};
 use krb_ccache::{Ccache, Cred, Offset};
-use krb_walk::Refusal;
+use krb_walk::{Placed, Refusal};
 use krb_wire::Limits;
 use linked_list_allocator::LocalHeap;
 use std::alloc::Allocator;
