@@ -1,7 +1,7 @@
 -- The names that answers cite most, passed on from one place. Declares nothing.
-pub use Rattle.krb_ktutil.proofs.Cited.{false, Added, Awaited, Awaiting, Bool, Ends, EndsAt, EntryParts, Err, Fails, HandlesLine, HasNone, IfSome, Key, Keytab, KtutilState, List, Nothing, Ok, OtherType, RunsKtutil, Some, Source, Talk, [], add-one, ap, arith, awaited_entry, bare_name, drop, drop-cons, end_status, end_status-none, entries, err_from_is_err_and, error_status, fails, first_talk, goes_on, inl, input_error, is_failed, is_other_type, keytab_in, keytab_or_empty, length, line_effect, max, nat_tests, none_added, options_in, plan_of, refl, subst, suc, sym, true, with_added, with_entries, with_key, words, written_to, ℕ, ◌++◌, ◌+◌, ◌-◌, ◌||◌, ◌∙◌, ◌∷◌, ◌≡◌}
+pub use Rattle.krb_ktutil.proofs.Cited.{false, Added, Awaited, Bool, Ends, EntryParts, Err, Fails, HasNone, Key, Keytab, KtutilState, List, Nothing, Ok, OtherType, RunsKtutil, Source, Talk, [], add-one, ap, arith, bare_name, drop, drop-cons, end_status, end_status-none, entries, err_from_is_err_and, error_status, fails, first_talk, goes_on, inl, input_error, is_failed, is_other_type, keytab_in, keytab_or_empty, length, line_effect, max, nat_tests, none_added, options_in, refl, subst, suc, sym, true, with_added, with_entries, words, written_to, ℕ, ◌++◌, ◌+◌, ◌-◌, ◌||◌, ◌∙◌, ◌∷◌, ◌≡◌}
 pub use Rattle.krb_ktutil.proofs.InputLemmas.{Grows-trans, HasNone-earlier, HasNone-grown, HasNone-sooner, IsFirst-earlier, none_up_to, ReadsLine-first, ReadsLine-last}
-pub use Rattle.krb_ktutil.proofs.KtutilDue.{key_ends, makes_keeps}
+pub use Rattle.krb_ktutil.proofs.KtutilDue.{handles}
 pub use Rattle.krb_ktutil.proofs.KtutilHandles.{all_entries, comes_added, entries_of, makes_end, makes_given, refuses_added}
-pub use Rattle.krb_ktutil.proofs.KtutilLemmas.{HandlesNext-by, Prompts-first, RunsKtutil-after, RunsKtutil-in_line, RunsKtutil-unread, Underway, Underway-first, Underway-line, WritesOn-put}
+pub use Rattle.krb_ktutil.proofs.KtutilLemmas.{Prompts-first, RunsKtutil-after, RunsKtutil-in_line, RunsKtutil-unread, Underway, Underway-first, Underway-line, WritesOn-put}
 pub use Rattle.krb_ktutil.proofs.WordLemmas.{first_word, no_words, options_in_word, size_from-step}

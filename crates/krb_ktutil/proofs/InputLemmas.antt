@@ -1,5 +1,5 @@
 -- Lines that were read from an input, which is split at newlines.
-use Rattle.krb_ktutil.proofs.Cited.{◌==◌, false, onto_first, ◌≡◌, ℕ, ◌+◌, ◌-◌, ◌<◌, ◌≤◌, List, [], ◌∷◌, ◌++◌, length, take, drop, Option, Some, None, refl, sym, ap, subst, ◌∙◌, arith, length-append, append_assoc, append-nil, take-add, slice_range, lines_of, HasNone, Grows, drop-drop, Keeps, take-append-drop, take-take, IsFirst, inl, inr, IfSome, length-drop, nat_lt, IsAtEnd, take_all, take-append-le, drop_all, lt-ltb, InputParts, ReadsLine, AreFirst, nil_from_length, common_steps, Consumes-trans, true, Consumes, with_newlines, flat_map-append, IsSpent, IsWithin, HasNoMore, CutsOff, most_bytes, ◌⊎◌, false≢true, nat_tests}
+use Rattle.krb_ktutil.proofs.Cited.{◌==◌, false, onto_first, ◌≡◌, ℕ, ◌+◌, ◌-◌, ◌<◌, ◌≤◌, List, [], ◌∷◌, ◌++◌, length, take, drop, Option, Some, None, refl, sym, ap, subst, ◌∙◌, arith, length-append, append_assoc, append-nil, take-add, slice_range, lines_of, HasNone, Grows, drop-drop, Keeps, take-append-drop, take-take, IsFirst, inl, inr, IfSome, length-drop, nat_lt, IsAtEnd, take-append-le, drop_all, lt-ltb, InputParts, ReadsLine, AreFirst, nil_from_length, common_steps, Consumes-trans, true, Consumes, with_newlines, flat_map-append, IsSpent, IsWithin, HasNoMore, CutsOff, most_bytes, ◌⊎◌, false≢true, nat_tests}
 use Rattle.std.specs.List.{AllByRecursion}
 use Rattle.krb_wire.proofs.Lists.{all_front, all_join}
 use Rattle.std.proofs.lemmas.List.Folds.{drop_split}
@@ -8,9 +8,7 @@ use Rattle.std.proofs.lemmas.List.Folds.{drop_split}
 
 -- a read that failed has taken nothing
 pub Grows-none : (old new : List ℕ) (left left' : Option (List ℕ)) → new ≡ old → Keeps left left' → Grows old new left left'
-Grows-none old new None left' e k = record { given = []; read = e ∙ sym (append-nil old); consumes = tt }
-Grows-none old new (Some xs) None e k = absurd k
-Grows-none old new (Some xs) (Some ys) e k = record { given = []; read = e ∙ sym (append-nil old); consumes = sym k }
+Grows-none old new left left' e k = record { given = []; read = e ∙ sym (append-nil old); consumes = grind arith }
 
 -- two reads, one after the other
 pub Grows-trans : (a b c : List ℕ) (l m n : Option (List ℕ)) → Grows a b l m → Grows b c m n → Grows a c l n
@@ -24,16 +22,14 @@ Grows-trans a b c l m n p q = record {
 
 -- two adjacent ranges
 parts_touch : (xs : List ℕ) (a b c : ℕ) → a ≤ b → b ≤ c → slice_range xs a c ≡ slice_range xs a b ++ slice_range xs b c
-parts_touch xs a b c p q =
-    ap (λ (n : ℕ). take n (drop a xs)) {x = c - a} {y = (b - a) + (c - b)} (omega (arith, p, q)) ∙ take-add (b - a) (c - b) (drop a xs)
-    ∙ ap (λ (ys : List ℕ). slice_range xs a b ++ take (c - b) ys) (drop-drop (b - a) a xs ∙ ap (λ (n : ℕ). drop n xs) {x = a + (b - a)} {y = b} (omega (arith, p)))
+parts_touch xs a b c p q = grind (arith, take-add (b - a) (c - b) (drop a xs), drop-drop (b - a) a xs)
 
 abbrev IsOther : ℕ → Type 0
 IsOther b = (b == 10) ≡ false
 
 -- no newline in a prefix, if there is none at all
 HasNone-take : (n : ℕ) (xs : List ℕ) → HasNone xs → HasNone (take n xs)
-HasNone-take n xs h = all_front IsOther (take n xs) (drop n xs) (subst HasNone (sym (take-append-drop n xs)) h)
+HasNone-take n xs h = all_front IsOther (take n xs) (drop n xs) (rw take-append-drop h)
 
 -- no newline up to a place, if there is none up to a later one
 pub HasNone-sooner : (xs : List ℕ) (a end most : ℕ) → most ≤ end → HasNone (slice_range xs a end) → HasNone (slice_range xs a most)
@@ -80,9 +76,7 @@ line-alone (b ∷ c ∷ bs) h some = rw h.0 (ap (onto_first b) (line-alone (c �
 
 -- a read that gave no byte has left the bytes as they were
 pub none-given : (old new given : List ℕ) → new ≡ old ++ given → length new ≡ length old → new ≡ old
-none-given old new given e same =
-    let none : length given ≡ 0 = (let sum = length-append old given in let whole = ap length e in omega (arith, same, sum, whole)) in
-    e ∙ ap (λ (xs : List ℕ). old ++ xs) (nil_from_length given none) ∙ append-nil old
+none-given old new given e same = grind (arith, common_steps, nil_from_length)
 
 -- what a read leaves of the search for a newline
 pub ruleset newlines = (IsFirst-earlier, HasNone-earlier, Grows-none, Grows-trans, none-given)
@@ -92,9 +86,9 @@ pub ruleset newlines = (IsFirst-earlier, HasNone-earlier, Grows-none, Grows-tran
 -- the bytes up to the first newline from a place on
 up_to_newline : (xs : List ℕ) (a end : ℕ) → IsFirst xs a end → take (end + 1) xs ≡ take a xs ++ (slice_range xs a end ++ 10 ∷ [])
 up_to_newline xs a end first =
-    let sum : end ≡ a + (end - a) = (let ahead = first.ahead in omega (arith, ahead)) in
-    take-add end 1 xs ∙ ap (λ (bs : List ℕ). take end xs ++ take 1 bs) first.rest
-    ∙ ap (λ (bs : List ℕ). bs ++ 10 ∷ []) (ap (λ (n : ℕ). take n xs) sum ∙ take-add a (end - a) xs) ∙ append_assoc (take a xs) (slice_range xs a end) (10 ∷ [])
+    let ahead = first.ahead in
+    let rest = first.rest in
+    grind (arith, take-add end 1 xs, take-add a (end - a) xs, append_assoc (take a xs) (slice_range xs a end) (10 ∷ []))
 
 -- a line was read up to a newline
 pub ReadsLine-first : (old new : InputParts) (left left' : Option (List ℕ)) (end : ℕ) → old.next ≤ length old.read → IsFirst new.read old.next end → Grows old.read new.read left left'
@@ -104,21 +98,14 @@ ReadsLine-first old new left left' end le is grows line next most =
     record {
       further = sym (lt-ltb old.next new.next (let ahead = is.ahead in omega (arith, ahead, next)));
       none = rw line is.before;
-      ends = inl (
-        refl,
-        record {
-          within = omega (arith, next, most);
-          read = ap (λ (n : ℕ). take n new.read) next ∙ up_to_newline new.read old.next end is
-              ∙ ap (λ (bs : List ℕ). bs ++ (slice_range new.read old.next end ++ 10 ∷ [])) front ∙ ap (λ (l : List ℕ). take old.next old.read ++ (l ++ 10 ∷ [])) (sym line);
-        },
-      );
+      ends = inl (refl, record { within = omega (arith, next, most); read = grind (arith, up_to_newline new.read old.next end is, front) });
     }
 
 -- what is left at the end of the input is a line, or nothing is left
 pub ReadsLine-last : (old new : InputParts) (left : Option (List ℕ)) → HasNone (drop old.next new.read) → IsAtEnd left
     → new.line ≡ slice_range new.read old.next (length new.read) → new.next ≡ length new.read → ReadsLine (nat_lt old.next (length new.read)) old new left
 ReadsLine-last old new left none end line next =
-    let rest : new.line ≡ drop old.next new.read = line ∙ take_all (length new.read - old.next) (drop old.next new.read) (omega (arith, length-drop old.next new.read)) in
+    let rest : new.line ≡ drop old.next new.read = grind (arith, common_steps, line) in
     record { further = rw next refl; none = rw rest none; ends = inr (record { at_end = end; all = next }, rest) }
 
 -- ---- the lines of an input
@@ -127,27 +114,14 @@ ReadsLine-last old new left none end line next =
 abbrev pub AreLines : Option (List ℕ) → List (List ℕ) → Type 0
 AreLines given lines = IfSome given (λ bytes. lines_of bytes ≡ lines)
 
--- the lines after its first ones
-pub lines_after : (given : Option (List ℕ)) (lines : List (List ℕ)) → AreFirst lines given → (more : List (List ℕ)) × AreLines given (lines ++ more)
-lines_after None lines first = ([], tt)
-lines_after (Some bytes) lines first = first
-
--- without the lines that follow these
-pub are_first : (given : Option (List ℕ)) (lines more : List (List ℕ)) → AreLines given (lines ++ more) → AreFirst lines given
-are_first None lines more is = tt
-are_first (Some bytes) lines more is = (more, is)
-
 -- the lines of a text that begins with lines, each with its newline
 lines_begin : (lines : List (List ℕ)) (rest : List ℕ) → AllByRecursion HasNone lines → lines_of (with_newlines lines ++ rest) ≡ lines ++ lines_of rest
 lines_begin [] rest h = refl
-lines_begin (line ∷ lines) rest h =
-    ap lines_of (append_assoc (line ++ 10 ∷ []) (with_newlines lines) rest ∙ append_assoc line (10 ∷ []) (with_newlines lines ++ rest))
-    ∙ lines-first line (with_newlines lines ++ rest) h.0
-    ∙ ap (λ (others : List (List ℕ)). line ∷ others) (lines_begin lines rest h.1)
+lines_begin (line ∷ lines) rest h = simp append_assoc (lines-first line (with_newlines lines ++ rest) h.0 ∙ ap (λ (others : List (List ℕ)). line ∷ others) (lines_begin lines rest h.1))
 
 -- one more line with its newline
 newline_more : (lines : List (List ℕ)) (line : List ℕ) → with_newlines (lines ++ line ∷ []) ≡ with_newlines lines ++ (line ++ 10 ∷ [])
-newline_more lines line = flat_map-append (λ l. l ++ 10 ∷ []) lines (line ∷ []) ∙ ap (λ (bs : List ℕ). with_newlines lines ++ bs) (append-nil (line ++ 10 ∷ []))
+newline_more lines line = simp (flat_map-append, append-nil)
 
 -- what was read up to the next line is these lines, each with its newline
 pub record AreEnded (lines : List (List ℕ)) (input : InputParts) : Type 0 where
@@ -165,47 +139,37 @@ if_some (Some bytes) f h = f bytes h
 
 -- what is known of an input is what was read of it and what is left
 pub consumed_as : (given left : Option (List ℕ)) (read : List ℕ) → Consumes given left read → IfSome given (λ bytes. (more : List ℕ) × ((left ≡ Some more) × (bytes ≡ read ++ more)))
-consumed_as None left read consumes = tt
-consumed_as (Some bytes) None read consumes = absurd consumes
-consumed_as (Some bytes) (Some more) read consumes = (more, (refl, consumes))
+consumed_as given left read consumes = grind arith
 
 lines_come : (lines : List (List ℕ)) (bytes read rest more : List ℕ) → bytes ≡ read ++ more → read ≡ with_newlines lines ++ rest → AllByRecursion HasNone lines → lines_of bytes ≡ lines ++ lines_of (rest ++ more)
-lines_come lines bytes read rest more is parts none =
-    ap lines_of (is ∙ ap (λ (bs : List ℕ). bs ++ more) parts ∙ append_assoc (with_newlines lines) rest more) ∙ lines_begin lines (rest ++ more) none
+lines_come lines bytes read rest more is parts none = grind (arith, append_assoc, lines_begin lines (rest ++ more) none)
 
 -- the lines that were read are the first of the input
 pub HasRead-first : (given : Option (List ℕ)) (lines : List (List ℕ)) (input : InputParts) (left : Option (List ℕ)) → HasRead given lines input left → Consumes given left input.read → AreFirst lines given
 HasRead-first given lines input left (inr all) consumes = if_some given (λ bytes is. ([], is.0 ∙ sym (append-nil lines))) all
 HasRead-first given lines input left (inl ended) consumes =
     let rest = drop input.next input.read in
-    let parts = sym (take-append-drop input.next input.read) ∙ ap (λ (bs : List ℕ). bs ++ rest) ended.read in
+    let parts : input.read ≡ with_newlines lines ++ rest = grind (arith, take-append-drop input.next input.read, ended.read) in
     if_some given (λ bytes c. (lines_of (rest ++ c.0), lines_come lines bytes input.read rest c.0 c.1.1 parts ended.none)) (consumed_as given left input.read consumes)
 
 -- after its end an input that is known gives no line
 no_further : (given left left' : Option (List ℕ)) (old new : InputParts) (P Q : List ℕ → Type 0) → Consumes given left old.read → IfSome given (λ bytes. P bytes × IsSpent old left) → Grows old.read new.read left left' → old.next < length new.read → IfSome given Q
 no_further None left left' old new P Q consumes all grows more = tt
-no_further (Some bytes) None left' old new P Q consumes all grows more = absurd consumes
-no_further (Some bytes) (Some xs) None old new P Q consumes all grows more = absurd grows.consumes
-no_further (Some bytes) (Some xs) (Some ys) old new P Q consumes all grows more =
-    let none : length (grows.given ++ ys) ≡ 0 = ap length (sym grows.consumes ∙ all.1.at_end) in
-    let read = all.1.all in
-    absurd (omega (arith, more, none, read, ap length grows.read, length-append old.read grows.given, length-append grows.given ys))
+no_further (Some bytes) left left' old new P Q consumes all grows more = grind (arith, consumes, grows.consumes, all.1.at_end, all.1.all, grows.read, common_steps, length-append)
 
 -- an input is read further
 module _ (given left left' : Option (List ℕ)) (lines : List (List ℕ)) (old new : InputParts) (within : IsWithin old) (consumes : Consumes given left old.read) (grows : Grows old.read new.read left left') where
   pub consumed : Consumes given left' new.read
-  consumed = subst (Consumes given left') (sym grows.read) (Consumes-trans given left left' old.read grows.given consumes grows.consumes)
+  consumed = rw grows.read (Consumes-trans given left left' old.read grows.given consumes grows.consumes)
 
   front : take old.next new.read ≡ take old.next old.read
-  front = ap (take old.next) grows.read ∙ take-append-le old.next old.read grows.given within.next
+  front = grind (arith, common_steps, within.next, grows.read)
 
   rest_lines : AreEnded lines old → IsAtEnd left' → AreLines given (lines ++ lines_of (drop old.next new.read))
   rest_lines ended end =
       let rest = drop old.next new.read in
-      let parts = sym (take-append-drop old.next new.read) ∙ ap (λ (bs : List ℕ). bs ++ rest) (front ∙ ended.read) in
-      if_some given (λ bytes c.
-      lines_come lines bytes new.read rest c.0 c.1.1 parts ended.none
-      ∙ ap (λ (bs : List ℕ). lines ++ lines_of (rest ++ bs)) (subst IsAtEnd c.1.0 end) ∙ ap (λ (bs : List ℕ). lines ++ lines_of bs) (append-nil rest))
+      let parts : new.read ≡ with_newlines lines ++ rest = grind (arith, take-append-drop old.next new.read, front, ended.read) in
+      if_some given (λ bytes c. lines_come lines bytes new.read rest c.0 c.1.1 parts ended.none ∙ ap (λ (bs : List ℕ). lines ++ lines_of bs) (ap (λ (bs : List ℕ). rest ++ bs) (subst IsAtEnd c.1.0 end) ∙ append-nil rest))
       (consumed_as given left' new.read consumed)
 
   -- one more line was read
@@ -241,9 +205,6 @@ module _ (given left left' : Option (List ℕ)) (lines : List (List ℕ)) (old n
   pub due_of : HasNoMore old new → AreEnded lines old → CutsOff lines (take most_bytes new.read)
   due_of no_more ended =
       let sum : most_bytes ≡ old.next + (most_bytes - old.next) = omega (arith, ended.within) in
-      record {
-        rest = slice_range new.read old.next most_bytes;
-        none = subst (λ (n : ℕ). HasNone (slice_range new.read n most_bytes)) no_more.same no_more.none;
-        bytes_are = ap (λ (n : ℕ). take n new.read) sum ∙ take-add old.next (most_bytes - old.next) new.read
-            ∙ ap (λ (bs : List ℕ). bs ++ slice_range new.read old.next most_bytes) (front ∙ ended.read);
-      }
+      let rest = slice_range new.read old.next most_bytes in
+      let parts = ap (λ (n : ℕ). take n new.read) sum ∙ take-add old.next (most_bytes - old.next) new.read ∙ ap (λ (bs : List ℕ). bs ++ rest) (front ∙ ended.read) in
+      record { rest = rest; none = rw no_more.same at no_more.none; bytes_are = parts }

@@ -1,5 +1,5 @@
 -- A line was made by its plan, from its steps, and with the entries of a keytab.
-use Rattle.krb_ktutil.proofs.Cited.{◌≡◌, ◌∙◌, sym, ℕ, List, [], ◌∷◌, Option, Some, None, refl, ap, Result, Ok, Err, EntryParts, KeytabState, Code, Added, with_added, map, option_map, filter_map, cons_option, entry_at, store_of, entries, result_map, ◌++◌, RefusesAdded, inl, inr, Bool, true, false, subst, false≢true, Ghosts, Ends, LineFault, words, Effect, Fails, Awaited, Awaiting, KtutilState, Came, plan_of, fails, line_faults, none_added, EndsAt, IsCame, line_effect, Answer, LoadsFile, Holds, Loads, by, has_type, EndsLoads, GivesOrIsSpent, AwaitKey, Command, WriteFile, after, asks_for_password, command_by, command_of, verb_of, LinePlan, after_fault, plan_by, command_plan, saved_as, words_plan, writing_plan, written_to, Attempts, Comes, MakesLine, RunsOut, Tries, Record, records, LineRefusal, Reads, RunError, fault_error}
+use Rattle.krb_ktutil.proofs.Cited.{◌≡◌, ◌∙◌, sym, ℕ, List, [], ◌∷◌, Option, Some, None, refl, ap, Result, Ok, Err, EntryParts, KeytabState, Code, Added, with_added, map, option_map, filter_map, cons_option, entry_at, store_of, entries, result_map, ◌++◌, RefusesAdded, inl, inr, Bool, true, false, subst, false≢true, Ghosts, Ends, LineFault, words, Effect, Fails, Awaited, Awaiting, KtutilState, Came, plan_of, fails, line_faults, none_added, EndsAt, IsCame, line_effect, Answer, LoadsFile, Loads, by, has_type, EndsLoads, GivesOrIsSpent, AwaitKey, Command, WriteFile, after, asks_for_password, command_by, command_of, verb_of, LinePlan, after_fault, plan_by, command_plan, saved_as, words_plan, writing_plan, written_to, Attempts, Comes, MakesLine, RunsOut, Tries, Record, records, LineRefusal, Reads, RunError, fault_error}
 use Rattle.krb_wire.specs.declared.format.KtFormat.{KtFormat}
 use Rattle.krb_keytab.specs.Find.{PlacedEntry, placed_entries}
 use Rattle.krb_keytab.specs.Changes.{put_result}
@@ -47,11 +47,9 @@ attempts_refused A s number (Err fault) refusal.NoMemory reads = absurd (false�
 -- the outcome of a plan with one load is that of its result
 by-loads : (s : KtutilState) (name : List ℕ) (then_ : Answer → Came) → then_ (Err load.Failed) ≡ fails s name error.FileNotRead → then_ (Err load.NoMemory) ≡ fails s name error.NoMemory
     → (answer : Answer) → by (line_faults s) (Loads name (λ a. Ends (then_ a))) (answer ∷ []) ≡ then_ answer
-by-loads s name then_ failed spent (Ok bytes) = refl
-by-loads s name then_ failed spent (Err load.Missing) = refl
-by-loads s name then_ failed spent (Err load.TooLarge) = refl
 by-loads s name then_ failed spent (Err load.Failed) = sym failed
 by-loads s name then_ failed spent (Err load.NoMemory) = sym spent
+by-loads s name then_ failed spent answer = refl
 
 -- memory ran out
 ran_out : {s new : KtutilState} {effect : Effect} {quits : Bool} → (r : RunsOut s new effect quits) → IsCame (fails s r.spent.0 error.NoMemory) new effect quits
@@ -62,8 +60,7 @@ module _ {F : Type 0} (trait : Ghosts F) where
   pub makes_end : (plan : LinePlan) (files : F) (old new : KtutilState) (effect : Effect) (quits : Bool) → EndsAt plan old new effect quits → MakesLine trait plan files files old new effect quits
   makes_end (Ends came) files old new effect quits (inl is) = record { answers = []; loads = (refl, refl); came = came; made = inl refl; is = is }
   makes_end (Ends came) files old new effect quits (inr out) = record { answers = []; loads = (refl, refl); came = fails old out.1.spent.0 error.NoMemory; made = inr (out.0, (out.1.spent.0, refl)); is = ran_out out.1 }
-  makes_end (Holds held name plan) files old new effect quits e = absurd e
-  makes_end (Loads name then_) files old new effect quits e = absurd e
+  makes_end plan files old new effect quits e = absurd e
 
   -- nothing is written under a name that begins with a type
   pub makes_typed : (s : KtutilState) (number : ℕ) (word : List ℕ) (files : F) (effect : Effect) (quits : Bool) → has_type word ≡ true → EndsAt (Ends (fails s word error.TypedName)) s s effect quits → MakesLine trait (command_plan s number (WriteFile word)) files files s s effect quits

@@ -1,9 +1,8 @@
 -- The lines of ktutil, one after the other, and their prompts.
-use Rattle.krb_ktutil.proofs.Cited.{◌≡◌, ℕ, Bool, true, false, List, [], ◌++◌, refl, sym, Result, Ok, Err, false≢true, Watch, ErrorWatch, Prompts, OnOk, OnErr, is_err, IsFalse, Appends, AppendsPrefix, WritesOn, Writes-nothing, PromptsOn, inl, inr, ◌+◌, ◌<◌, ◌≤◌, ◌∷◌, length, length-append, subst, arith, max, not, ◌&&◌, Option, None, Some, Ghosts, input_error, error_status, Grows, Talk, first_talk, goes_on, HandlesLine, ◌≢◌, ◌||◌, Consumes, InputParts, HasNoMore, IsWithin, most_bytes, EndsTalk, TalksOver, prompt_of, Source, is_failed, Appends-trans, AppendsPrefix-after, AppendsPrefix-all, Order, LoadFault, HandlesNext, RunsKtutil, Details, nat_tests, ReportsEnd, ReadsLine, ◌∙◌, append_assoc, append-nil}
+use Rattle.krb_ktutil.proofs.Cited.{◌≡◌, ℕ, Bool, true, false, List, [], ◌++◌, refl, sym, Result, Ok, Err, false≢true, Watch, ErrorWatch, Prompts, OnOk, OnErr, is_err, IsFalse, Appends, AppendsPrefix, WritesOn, Writes-nothing, PromptsOn, inl, inr, ◌+◌, ◌<◌, ◌≤◌, ◌∷◌, length, length-append, subst, arith, max, Option, None, Some, Ghosts, input_error, error_status, Grows, Talk, first_talk, ◌≢◌, ◌||◌, Consumes, InputParts, HasNoMore, IsWithin, most_bytes, EndsTalk, TalksOver, prompt_of, Source, is_failed, Appends-trans, AppendsPrefix-after, AppendsPrefix-all, Order, LoadFault, HandlesNext, RunsKtutil, Details, nat_tests, ReportsEnd, ReadsLine, ◌∙◌, append_assoc, append-nil}
 use Rattle.krb_files.specs.declared.files.LoadFault.TheVariants.{Missing, TooLarge}
 use Rattle.krb_driver.specs.declared.command.World.{World}
 use Rattle.krb_ktutil.proofs.InputLemmas.{HasRead, HasRead-end, HasRead-first, HasRead-line, consumed, consumed_as, due_of, if_some}
-use Rattle.krb_ktutil.proofs.KtutilHonestly.{honest_ends}
 
 -- a text was put after what was written
 pub WritesOn-put : {T E : Type 0} (old new : Watch) (text : List ℕ) (put : Result T E) → IsFalse old.failed → OnOk put (Appends old.contents new.contents text) → OnErr put (AppendsPrefix old.contents new.contents text)
@@ -30,13 +29,6 @@ Prompts-first prompts prompt old new on = on old [] (Prompts-none prompts old)
 none_consumed : (given : Option (List ℕ)) → Consumes given given []
 none_consumed None = tt
 none_consumed (Some bytes) = refl
-
--- the end of a line decides whether another may come, and the output
-pub HandlesNext-by : {F : Type 0} (trait : Ghosts F) (now number : ℕ) (line : List ℕ) (old new : Talk F) (handles : HandlesLine trait now number line old new)
-    → (goes failed : Bool) → goes ≡ goes_on handles.quits handles.end.ending → failed ≡ new.out.failed → HandlesNext trait now number line old new (goes && not failed)
-HandlesNext-by trait now number line old new handles true true goes is = (handles, inr (sym is))
-HandlesNext-by trait now number line old new handles true false goes is = (handles, sym goes, sym is)
-HandlesNext-by trait now number line old new handles false failed goes is = (handles, inl (sym goes))
 
 -- lines were run, and the run goes on
 pub record Underway {F : Type 0} (trait : Ghosts F) (prompts : Bool) (now : ℕ) (given : Option (List ℕ)) (first : Talk F) (input : InputParts) (left : Option (List ℕ)) (number : ℕ) (talk : Talk F) : Type 0 where
@@ -78,7 +70,7 @@ module _ {F : Type 0} (trait : Ghosts F) (prompts : Bool) (now : ℕ) (given : O
         below = omega (arith, u.below, further);
       }
 
-module _ {F R W E : Type 0} (trait : Ghosts F) (prompts : Bool) (now : ℕ) (order : Order) (world : World F R W E) (last : Source) (old new : InputParts) (left : Option (List ℕ)) (number : ℕ) (talk : Talk F)
+module _ {F R W E : Type 0} {trait : Ghosts F} {prompts : Bool} {now : ℕ} {order : Order} (world : World F R W E) (last : Source) {old new : InputParts} {left : Option (List ℕ)} {number : ℕ} {talk : Talk F}
     (u : Underway trait prompts now world.input.left (first_talk order world.files world.out world.err) old left number talk) (grows : Grows old.read new.read left last.left) (within : IsWithin new) where
   consumes : Consumes world.input.left last.left new.read
   consumes = consumed world.input.left left last.left u.lines old new u.within u.consumes grows
@@ -94,7 +86,6 @@ module _ {F R W E : Type 0} (trait : Ghosts F) (prompts : Bool) (now : ℕ) (ord
     talked = talked;
     ends = ends;
     taken = record { taken = new.read; consumes = consumes; bound = within.most };
-    honest = honest_ends trait prompts now world.input last u.lines (first_talk order world.files world.out world.err) talk end talked ends;
   }
 
   -- the input has ended

@@ -3,6 +3,5 @@ pub mod InputLemmas
 pub mod WordLemmas
 pub mod KtutilHandles
 pub mod KtutilDue
-pub mod KtutilHonestly
 pub mod KtutilLemmas
 pub mod ForAnswers

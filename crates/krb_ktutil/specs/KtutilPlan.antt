@@ -31,6 +31,7 @@ use Rattle.krb_ktutil.specs.KtutilCommand.{fault_error, is_word, trimmed, words,
 use Rattle.krb_walk.specs.declared.refusal.Refusal.{Refusal}
 use Rattle.krb_walk.specs.declared.refusal.Refusal.TheVariants as refusal
 use Rattle.krb_files.specs.declared.files.Files.{Ghosts}
+use Rattle.krb_files.specs.Files.{CountsFailure}
 use Rattle.krb_files.specs.Loading.{Answer}
 use Rattle.krb_text.specs.declared.line_fault.LineRefusal.{LineRefusal}
 use Rattle.krb_text.specs.declared.line_fault.LineRefusal.TheVariants as line
@@ -218,6 +219,13 @@ pub record MakesLine {F : Type 0} (trait : Ghosts F) (plan : LinePlan) (files fi
   pub came : Came
   pub made : (came ≡ by (line_faults old) plan answers) ⊎ (IsTrue (takes_memory plan) × ((file : List ℕ) × (came ≡ fails old file error.NoMemory)))
   pub is : IsCame came new effect quits
+
+-- what is due of a line of ktutil was made; or a file was not read, which is counted, or memory ran out
+abbrev pub ComesDue : {F : Type 0} → Ghosts F → Came → F → F → KtutilState → Effect → Bool → Type 0
+ComesDue trait due files files' new effect quits =
+    IsCame due new effect quits
+    ⊎ ((CountsFailure (trait.failure_count files) (trait.failure_count files') × ((file : List ℕ) × (effect ≡ Fails file error.FileNotRead)))
+    ⊎ IsSpent effect)
 
 -- a line of ktutil that fails leaves the entries, one that saves leaves the list, and printing a page takes no memory
 abbrev pub Spares : KtutilState → KtutilState → Effect → Type 0

@@ -1,25 +1,23 @@
 -- A run of ktutil, line by line, with its prompts.
-use Rattle.std.specs.Prelude.{◌≡◌, ℕ, Bool, true, false, List, ◌∷◌, [], ◌++◌, codes, ◌≢◌, ◌⊎◌, ◌||◌, ◌&&◌, not, ◌+◌, ◌<◌, max, take, IsTrue, IsFalse, length, Option, Some, None, IfSome, Err, if◌then◌else◌, Ok}
-use Rattle.krb_driver.specs.Runs.{ErrorWatch, Writes, ReportsEnd, Run, Reports, ends_by}
+use Rattle.std.specs.Prelude.{◌≡◌, ℕ, Bool, true, false, List, ◌∷◌, [], ◌++◌, codes, ◌≢◌, ◌⊎◌, ◌||◌, ◌&&◌, not, ◌+◌, ◌<◌, ◌≤◌, max, take, IsTrue, IsFalse, length, Option, Some, None, IfSome, Err}
+use Rattle.krb_driver.specs.Runs.{ErrorWatch, Writes, ReportsEnd}
 use Rattle.krb_ktutil.specs.declared.ktutil.awaiting.Awaiting.{Awaiting}
 use Rattle.krb_ktutil.specs.declared.ktutil.awaiting.Awaiting.TheVariants.{Nothing, Key, Password}
 use Rattle.krb_wire.specs.declared.format.Order.{Order}
 use Rattle.krb_files.specs.declared.files.Files.{Ghosts}
 use Rattle.krb_files.specs.declared.files.LoadFault.{LoadFault}
 use Rattle.krb_files.specs.declared.files.LoadFault.TheVariants.{Missing, TooLarge}
-use Rattle.std.specs.Io.KnownBytes.{Consumes, Appends}
+use Rattle.std.specs.Io.KnownBytes.{Consumes}
 use Rattle.krb_files.specs.Bytes.{Watch, Source, is_failed, ConsumesAtMost}
 use Rattle.krb_files.specs.Plan.{follow}
 use Rattle.krb_driver.specs.declared.command.RunEnd.{RunEnd}
 use Rattle.krb_driver.specs.declared.reporting.details.Details.{Details}
-use Rattle.krb_driver.specs.Commands.{Finishes, Keeps, Effect, Fails, Displays, Saves, about, files_after}
-use Rattle.krb_ktutil.specs.KtutilPlan.{KtutilState, plan_of, MakesLine, Spares}
+use Rattle.krb_driver.specs.Commands.{Finishes, Keeps, Effect}
+use Rattle.krb_ktutil.specs.KtutilPlan.{KtutilState, plan_of, ComesDue, MakesLine, Spares}
 use Rattle.krb_ktutil.specs.InputLines.{CutsOff, lines_of}
 use Rattle.krb_files.specs.Loading.{most_bytes}
 use Rattle.krb_driver.specs.RunErrors.{Ending, error_status, input_error, is_spent}
-use Rattle.krb_files.specs.Files.{FileMap, SameFiles, CountsFailure}
 use Rattle.krb_ktutil.specs.KtutilCommand.{Awaited, key_prompt}
-use Rattle.krb_driver.specs.declared.verdict.Verdict.TheVariants.{Well}
 use Rattle.krb_driver.specs.declared.command.World.{World}
 
 -- the prompt before a line
@@ -78,7 +76,10 @@ module _ {F : Type 0} (trait : Ghosts F) (now : ℕ) where
     pub end : RunEnd
     pub finishes : Finishes trait (Some number) effect made new.files old.out new.out old.err new.err end
     pub worst : new.status ≡ max old.status end.status
-    -- over honest files
+    -- honest files stay honest, and the count of failures never falls
+    pub lasts : (trait.is_honest old.files → trait.is_honest new.files) × (trait.failure_count old.files ≤ trait.failure_count new.files)
+    -- over honest files what is due was made, and done
+    pub due : trait.is_honest old.files → ComesDue trait (follow (trait.file old.files) (plan_of old.state now number line)) old.files made new.state effect quits
     pub honest : trait.is_honest old.files → Keeps trait (follow (trait.file old.files) (plan_of old.state now number line)).effect old.files new.files finishes.left
 
   -- a line of ktutil was run, and this is whether another may come: not after an end, or if memory ran out or the output failed
@@ -135,102 +136,6 @@ module _ {F : Type 0} (trait : Ghosts F) (now : ℕ) where
       abbrev pub EndsTalk : Type 0
       EndsTalk = EndsAfterLines ⊎ (EndsInLine ⊎ EndsUnread)
 
--- ---- what is due after the lines of ktutil if the files are honest
-
--- a report that is due: the prompt before it, the file that it may name, the line, and the ending
-pub record DueReport : Type 0 where
-  pub prompt : List ℕ
-  pub file : List ℕ
-  pub line : Option ℕ
-  pub ending : Ending
-
--- what lines of ktutil come to: the files after them, what is printed, and the reports, in order
-pub record TalkDue : Type 0 where
-  pub files : FileMap
-  pub out : List ℕ
-  pub reported : List DueReport
-
--- what is due of a line of ktutil that is the last
-abbrev pub last_due : List ℕ → DueReport → FileMap → TalkDue
-last_due out report files = record { files = files; out = out; reported = report ∷ [] }
-
--- what is due of a line of ktutil, and of those after it
-abbrev pub due_after : List ℕ → DueReport → TalkDue → TalkDue
-due_after out report due = record { files = due.files; out = out ++ due.out; reported = report ∷ due.reported }
-
--- the prompt after all lines of ktutil, with a newline at the end of the input
-abbrev pub final_prompt : Awaiting Awaited → Ending → List ℕ
-final_prompt awaiting (Ok verdict) = prompt_of awaiting ++ 10 ∷ []
-final_prompt awaiting (Err error) = prompt_of awaiting
-
--- the report after all lines
-abbrev pub final_report : Awaiting Awaited → Run → DueReport
-final_report awaiting run = record { prompt = final_prompt awaiting run.ending; file = []; line = None; ending = run.ending }
-
--- what an effect prints, and how the run ends, if no call fails
-abbrev pub run_of : Effect → Run
-run_of (Fails file why) = ends_by why
-run_of (Displays file page) = record { out = page.out; ending = page.ending }
-run_of (Saves file bytes out verdict) = record { out = out; ending = Ok verdict }
-
--- the report of the effect of ktutil's line, after its prompt
-abbrev pub line_report : Awaiting Awaited → ℕ → Effect → DueReport
-line_report awaiting number effect = record { prompt = prompt_of awaiting; file = about effect; line = Some number; ending = (run_of effect).ending }
-
--- what is due of lines of ktutil, run in order from a number on, up to one that is the last; `final` is due after all of them
-abbrev pub talk_due : Run → ℕ → ℕ → List (List ℕ) → KtutilState → FileMap → TalkDue
-talk_due final now number [] state files = last_due final.out (final_report state.awaiting final) files
-talk_due final now number (line ∷ lines) state files =
-    let came = follow files (plan_of state now number line) in
-    let run = run_of came.effect in
-    let report = line_report state.awaiting number came.effect in
-    if goes_on came.quits run.ending
-    then due_after run.out report (talk_due final now (number + 1) lines came.state (files_after files came.effect))
-    else last_due run.out report (files_after files came.effect)
-
--- a report that is due was written, with this status, from the error output `old` to `new`; no save left anything behind
-pub record ReportsDue (due : DueReport) (old new : ErrorWatch) (status : ℕ) : Type 0 where
-  pub details : Details
-  pub reported : Reports due.file due.line details due.ending old new status
-  pub untold : details.aftermath ≡ None
-
--- reports that are due were written in order, each after its prompt, and this is the greatest of their statuses
-abbrev pub ReportsInTurn : Bool → ErrorWatch → ErrorWatch → List DueReport → ℕ → Type 0
-ReportsInTurn prompts old new [] worst = (new ≡ old) × (worst ≡ 0)
-ReportsInTurn prompts old new (t ∷ others) worst =
-    (asked : ErrorWatch) × (between : ErrorWatch) × (status : ℕ) × (rest : ℕ) × (Prompts prompts t.prompt old asked
-    × (ReportsDue t asked between status × (ReportsInTurn prompts between new others rest × (worst ≡ max status rest))))
-
--- nothing is printed, and all is well
-abbrev pub quiet_run : Run
-quiet_run = record { out = []; ending = Ok Well }
-
--- the lines of ktutil's input, and what is due after them: nothing at its end, or the report why no line more was run
-pub record GivesLines (given : Option (List ℕ)) (lines : List (List ℕ)) (final : Run) : Type 0 where
-  pub gives : (IfSome given (λ bytes. lines_of bytes ≡ lines) × (final ≡ quiet_run)) ⊎ (AreFirst lines given × ((fault : LoadFault) × (final ≡ ends_by (input_error fault))))
-
-module _ {F : Type 0} (trait : Ghosts F) (prompts : Bool) where
-  -- a run left what was due
-  pub record LeavesDue (due : TalkDue) (old new : Talk F) : Type 0 where
-    pub files : SameFiles due.files (trait.file new.files)
-    pub out : Appends old.out.contents new.out.contents due.out
-    pub worst : ℕ
-    pub err : ReportsInTurn prompts old.err new.err due.reported worst
-    pub status : new.status ≡ max old.status worst
-
-  -- a run left what was due, unless a file call failed, which is counted, or the output failed
-  abbrev pub LeavesDueUnlessFailed : TalkDue → Talk F → Talk F → Type 0
-  LeavesDueUnlessFailed due old new =
-      CountsFailure (trait.failure_count old.files) (trait.failure_count new.files)
-      ⊎ (IsTrue new.out.failed ⊎ LeavesDue due old new)
-
-  -- over honest files a run of ktutil leaves what is due of the lines of its input, or of those before memory ran out
-  pub record TalksHonestly (now : ℕ) (given : Option (List ℕ)) (old new : Talk F) : Type 0 where
-    pub lines : List (List ℕ)
-    pub final : Run
-    pub given_lines : GivesLines given lines final
-    pub leaves : LeavesDueUnlessFailed (talk_due final now 1 lines old.state (trait.file old.files)) old new
-
 -- ---- what a run of ktutil does
 
 -- a run of ktutil took the world from `old` to `new` with this status: the lines of the input were run in order, each after its prompt if there are prompts, up to one that is the last or to the end
@@ -241,4 +146,3 @@ pub record RunsKtutil {F R W E : Type 0} (trait : Ghosts F) (order : Order) (pro
   pub talked : TalksOver trait now prompts 1 lines (first_talk order old.files old.out old.err) last
   pub ends : EndsTalk trait now prompts old.input new.input lines last (record { files = new.files; state = state; out = new.out; err = new.err; status = status })
   pub taken : ConsumesAtMost old.input.left new.input.left (most_bytes + 1)
-  pub honest : trait.is_honest old.files → TalksHonestly trait prompts now old.input.left (first_talk order old.files old.out old.err) (record { files = new.files; state = state; out = new.out; err = new.err; status = status })

@@ -1,7 +1,7 @@
 -- The names that the proofs cite most, passed on from one place. Declares nothing.
 pub use Rattle.std.proofs.Common.{refl}
-pub use Rattle.std.specs.List.{filter_map, flat_map, list_any}
-pub use Rattle.std.specs.Prelude.{◌≡◌, ◌+◌, ℕ, [], ◌∷◌, map, codes, true, false, None, Some, Ok, Err, ◌-◌, ◌*◌, List, ◌++◌, nat_lt, if◌then◌else◌, ◌<◌, ◌≤◌, ◌^◌, max, length, fold, Bool, Option, option_map, unwrap_or, Result, slice_get, nat_eq, filter, ◌&&◌, replicate, pos, negsuc, ⊤}
+pub use Rattle.std.specs.List.{filter_map, list_any}
+pub use Rattle.std.specs.Prelude.{◌≡◌, ◌+◌, ℕ, [], ◌∷◌, map, codes, true, false, None, Some, Ok, Err, ◌-◌, ◌*◌, List, ◌++◌, nat_lt, if◌then◌else◌, max, length, Bool, Option, option_map, unwrap_or, Result, slice_get, nat_eq, filter, ◌&&◌, replicate, pos, negsuc, ⊤}
 pub use Rattle.krb_audit.specs.declared.selection.SelectedKvno.TheVariants.{Old}
 pub use Rattle.krb_driver.specs.declared.verdict.Verdict.TheVariants.{Without, Well}
 pub use Rattle.krb_editors.specs.Ccremove.{ended_by, ccremove_plan}
@@ -27,7 +27,7 @@ pub use Rattle.krb_driver.specs.Runs.{ErrorWatch, ending_text, near_words, words
 pub use Rattle.krb_editors.specs.MissingFiles.{is_missing, missing_error}
 pub use Rattle.krb_editors.specs.Removing.{is_none, seen_after}
 pub use Rattle.krb_editors.specs.Ktremove.{needed_time, ktremove_plan}
-pub use Rattle.krb_ktutil.specs.KtutilTalk.{first_talk, quiet_run, talk_due}
+pub use Rattle.krb_ktutil.specs.KtutilTalk.{first_talk, goes_on}
 pub use Rattle.krb_editors.specs.Hold.{most_frame, frame, held_in, received, file_kind as held_file_kind}
 pub use Rattle.krb_ccache.specs.Store.{CacheState, open_result as cache_result, image_of as cache_image}
 pub use Rattle.krb_editors.specs.HoldEnds.{last_line, HoldEnd, about_end, ending_of as end_of_hold}

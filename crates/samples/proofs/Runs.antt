@@ -1,5 +1,5 @@
 -- What a run of a command comes to if no call fails: what it prints, how it ends, and its files afterwards.
-use Rattle.samples.proofs.Cited.{filter_map, flat_map, list_any, ℕ, ◌+◌, max, List, [], ◌∷◌, ◌++◌, codes, length, map, fold, Bool, false, nat_lt, Option, None, Some, option_map, unwrap_or, Result, Ok, Err, if◌then◌else◌, slice_get, nat_eq, filter, ◌&&◌, Well, ccremove_plan, most_bytes, KeytabState, FileMap, loaded, node_of, RunEnd, NothingSelected, OtherType, FileName, LikePrincipal, Word, Ending, ending_status, error_of_name, ending_text, near_words, words_if, is_missing, missing_error, is_none, seen_after, ktremove_plan, quiet_run, talk_due, frame, most_frame, held_in, received, held_file_kind, HoldEnd, about_end, end_of_hold, last_line}
+use Rattle.samples.proofs.Cited.{filter_map, list_any, ℕ, ◌+◌, max, List, [], ◌∷◌, ◌++◌, codes, length, map, Bool, false, nat_lt, Option, None, Some, option_map, unwrap_or, Result, Ok, Err, if◌then◌else◌, slice_get, nat_eq, filter, ◌&&◌, Well, ccremove_plan, most_bytes, KeytabState, FileMap, loaded, node_of, RunEnd, NothingSelected, OtherType, FileName, LikePrincipal, Word, Ending, ending_status, error_of_name, ending_text, near_words, words_if, is_missing, missing_error, is_none, seen_after, ktremove_plan, goes_on, frame, most_frame, held_in, received, held_file_kind, HoldEnd, about_end, end_of_hold, last_line}
 use Rattle.krb_driver.specs.Commands.{CommandPlan, Effect, Fails, Displays, Saves, files_after, opens}
 use Rattle.krb_keytab_text.specs.Script.{event_in}
 use Rattle.krb_findings.specs.Table.{none}
@@ -40,6 +40,7 @@ use Rattle.krb_editors.specs.Ktremove.{removal_of}
 use Rattle.krb_editors.specs.declared.hold.last_line.Outcome.TheVariants.{Saved, Left}
 use Rattle.krb_ktutil.specs.declared.ktutil.awaiting.Awaiting.TheVariants.{Nothing}
 use Rattle.krb_ktutil.specs.InputLines.{lines_of}
+use Rattle.krb_ktutil.specs.KtutilPlan.{KtutilState, plan_of}
 
 -- the name of a file, as a word gives it
 abbrev named : Bool → FileKind → List ℕ → FileName
@@ -100,9 +101,13 @@ output (Fails file why) = []
 output (Displays file page) = page.out
 output (Saves file bytes out verdict) = out
 
--- a run that prints this about a file and ends so, with its messages explained or not
+-- a run, or a line of ktutil, that prints this about a file and ends so, with its messages explained or not
+abbrev ends_at : Option ℕ → Bool → List ℕ → List ℕ → Ending → FileMap → Seen
+ends_at line explains out file end files = record { out = out; err = ending_text explains file line no_details end; status = ending_status end; files = files }
+
+-- the same of a run
 abbrev ends : Bool → List ℕ → List ℕ → Ending → FileMap → Seen
-ends explains out file end files = record { out = out; err = ending_text explains file None no_details end; status = ending_status end; files = files }
+ends explains = ends_at None explains
 
 -- a run with that plan
 abbrev follows : Bool → FileMap → CommandPlan → Seen
@@ -245,13 +250,15 @@ hold explains files input ws = by_words explains (codes "hold") files (hold_of w
     let run = ends explains (output effect) (about_end file.name.now end) (end_of_hold end) (files_after files effect) in
     record run { out = run.out ++ last_line run.status None None end })
 
+-- lines of ktutil at a second, one after the other, the first with that number, up to one that is the last
+abbrev ktutil_lines : Bool → ℕ → ℕ → KtutilState → FileMap → List (List ℕ) → Seen
+ktutil_lines explains now number state files [] = ends explains [] [] (Ok Well) files
+ktutil_lines explains now number state files (line ∷ lines) =
+    let came = follow files (plan_of state now number line) in
+    let end = ending_of came.effect in
+    let first = ends_at (Some number) explains (output came.effect) (about came.effect) end (files_after files came.effect) in
+    if goes_on came.quits end then followed_by first (ktutil_lines explains now (number + 1) came.state first.files lines) else first
+
 -- the lines of an input at a second, without prompts
 abbrev pub ktutil : Bool → ℕ → FileMap → List ℕ → Matched → Seen
-ktutil explains now files input ws =
-    let due = talk_due quiet_run now 1 (lines_of input) (record { order = v1_order ws; entries = []; awaiting = Nothing }) files in
-    record {
-      out = due.out;
-      err = flat_map (λ r. ending_text explains r.file r.line no_details r.ending) due.reported;
-      status = fold (λ worst r. max worst (ending_status r.ending)) 0 due.reported;
-      files = due.files;
-    }
+ktutil explains now files input ws = ktutil_lines explains now 1 (record { order = v1_order ws; entries = []; awaiting = Nothing }) files (lines_of input)

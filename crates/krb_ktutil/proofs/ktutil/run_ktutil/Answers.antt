@@ -13,9 +13,8 @@ lines-init g c = (
 pub returns-in-Ok-false : goal.returns-in-Ok-false
 returns-in-Ok-false g c =
     let prompted = Prompts-first c.args.prompts _ c.lines.world.err c.show_prompt.new.err (rw c.prompt.ensures at c.show_prompt.ensures) in
-    let line = rw c.in-Ok-false.field-0-test at c.in-Ok-false.ensures.line in
-    RunsKtutil-after g.F.Files c.args.prompts c.args.now c.args.v1_order c.args.world.now c.read_line.new.reader c.lines.lines c.read_line.new.self c.lines.world.input.left c.lines.number _ c.lines.invariant.2
-    c.in-Ok-false.ensures.grows c.in-Ok-false.ensures.within c.show_prompt-in-Ok-false.new.err (c.show_prompt-in-Ok-false.ensures c.lines.world.err _ prompted) line (c.in-Ok-false.ensures.failed ∙ c.lines.invariant.1)
+    RunsKtutil-after _ _ c.lines.invariant.2 c.in-Ok-false.ensures.grows c.in-Ok-false.ensures.within _ (c.show_prompt-in-Ok-false.ensures c.lines.world.err _ prompted)
+    (rw c.in-Ok-false.field-0-test at c.in-Ok-false.ensures.line) (c.in-Ok-false.ensures.failed ∙ c.lines.invariant.1)
 
 -- it could not be read
 pub returns-in-Err : goal.returns-in-Err
@@ -25,32 +24,24 @@ returns-in-Err g c =
     let why = input_error c.in-Err.fault in
     let reported = rw c.of_input-error.ensures at c.report-status.ensures in
     let is : error_status why ≡ end_status (Err why) details.aftermath = end_status-none (Err why) details.aftermath c.unsaved-details.ensures.aftermath in
-    RunsKtutil-unread g.F.Files c.args.prompts c.args.now c.args.v1_order c.args.world.now c.read_line.new.reader c.lines.lines c.read_line.new.self c.lines.world.input.left c.lines.number _ c.lines.invariant.2
-    c.in-Err.ensures.grows c.in-Err.ensures.within c.in-Err.fault details c.show_prompt.new.err c.report-status.new.err c.max.result prompted c.in-Err.ensures.no_more (c.in-Err.ensures.failed ∙ ap (λ (b : Bool). is_failed c.in-Err.fault || b) c.lines.invariant.1) c.in-Err.ensures.never (λ e. c.in-Err.ensures.too_large (ap Err e))
-    reported.reports c.unsaved-details.ensures.aftermath (c.max.ensures ∙ ap (max c.lines.talk.status) (reported.status_is ∙ sym is))
+    RunsKtutil-unread _ _ c.lines.invariant.2 c.in-Err.ensures.grows c.in-Err.ensures.within c.in-Err.fault details _ _ _ prompted c.in-Err.ensures.no_more (c.in-Err.ensures.failed ∙ ap (λ (b : Bool). is_failed c.in-Err.fault || b) c.lines.invariant.1) c.in-Err.ensures.never
+    (λ e. c.in-Err.ensures.too_large (ap Err e)) reported.reports c.unsaved-details.ensures.aftermath (c.max.ensures ∙ ap (max c.lines.talk.status) (reported.status_is ∙ sym is))
 
 -- a line was the last
 pub returns-then-not-handle : goal.returns-then-not-handle
 returns-then-not-handle g c =
     let prompted = Prompts-first c.args.prompts _ c.lines.world.err c.show_prompt.new.err (rw c.prompt.ensures at c.show_prompt.ensures) in
-    let line = rw c.in-Ok-true.field-0-test at c.in-Ok-true.ensures.line in
     let stops = rw (c.line.ensures, c.lines.invariant.0) at c.if-not-handle.ensures.next in
-    let world = c.handle.new.world in
-    subst (λ (input : Source). RunsKtutil g.F.Files c.args.v1_order c.args.prompts c.args.now c.args.world.now (record world { input = input }) c.handle.new.self.status) (sym c.if-not-handle.ensures.input)
-    (RunsKtutil-in_line g.F.Files c.args.prompts c.args.now c.args.v1_order c.args.world.now c.read_line.new.reader c.lines.lines c.read_line.new.self c.lines.world.input.left c.lines.number _ c.lines.invariant.2
-    c.in-Ok-true.ensures.grows c.in-Ok-true.ensures.within _ c.show_prompt.new.err prompted line (c.in-Ok-true.ensures.failed ∙ c.lines.invariant.1) stops)
+    rw c.if-not-handle.ensures.input (RunsKtutil-in_line _ _ c.lines.invariant.2 c.in-Ok-true.ensures.grows c.in-Ok-true.ensures.within _ c.show_prompt.new.err prompted
+    (rw c.in-Ok-true.field-0-test at c.in-Ok-true.ensures.line) (c.in-Ok-true.ensures.failed ∙ c.lines.invariant.1) stops)
 
 pub lines-preserved : goal.lines-preserved
 lines-preserved g c =
     let prompted = Prompts-first c.args.prompts _ c.lines.world.err c.show_prompt.new.err (rw c.prompt.ensures at c.show_prompt.ensures) in
     let line = rw c.in-Ok-true.field-0-test at c.in-Ok-true.ensures.line in
     let continues = rw (c.line.ensures, c.lines.invariant.0) at c.if-not-handle.ensures.next in
-    let input = c.if-not-handle.ensures.input in
-    let world = c.handle.new.world in
-    let first = c.args.world.now in (
+    let input = c.if-not-handle.ensures.input in (
       c.if-not-handle.ensures.now ∙ c.lines.invariant.0,
       ap (λ (i : Source). i.failed) input ∙ c.in-Ok-true.ensures.failed ∙ c.lines.invariant.1,
-      subst (λ (i : Source). Underway g.F.Files c.args.prompts c.args.now first.input.left (first_talk c.args.v1_order first.files first.out first.err) c.read_line.new.self i.left (c.lines.number + 1)
-          (record { files = world.files; state = c.handle.new.self.ktutil; out = world.out; err = world.err; status = c.handle.new.self.status })) (sym input)
-          (Underway-line g.F.Files c.args.prompts c.args.now _ _ c.lines.lines c.read_line.new.self _ _ c.lines.number _ _ c.show_prompt.new.err c.lines.invariant.2 line c.in-Ok-true.ensures.grows c.in-Ok-true.ensures.within prompted continues),
+      rw input (Underway-line g.F.Files c.args.prompts c.args.now _ _ c.lines.lines c.read_line.new.self _ _ c.lines.number _ _ c.show_prompt.new.err c.lines.invariant.2 line c.in-Ok-true.ensures.grows c.in-Ok-true.ensures.within prompted continues),
     )
