@@ -1,25 +1,25 @@
 -- The names that the proofs cite most, passed on from one place. Declares nothing.
-pub use Rattle.std.proofs.Common.{◌≡◌, ◌∙◌, refl, ap, sym, List, ℕ, length, Ok, ◌∷◌, Err, [], arith, inl, true, subst, Bool, drop, ◌≤◌, false, Some, ◌++◌, Option, ◌+◌, inr, ◌-◌, Result, None, append-nil, take, ◌<◌, append_assoc, not, length-append, ◌⊎◌, take-add, map, cond, suc, get_or, drop-drop, length-drop, ◌≢◌, vec_len, zero, is_some, nat_lt, add-one}
-pub use Rattle.std.proofs.lemmas.Bool.{false≢true, lt-ltb, cond_both}
-pub use Rattle.std.proofs.lemmas.List.{take-append-le, drop_all, take-append-drop, take-take, nil_from_length}
+pub use Rattle.std.proofs.Common.{◌≡◌, ◌∙◌, refl, ap, sym, List, ℕ, length, Ok, ◌∷◌, Err, [], arith, inl, true, subst, Bool, drop, ◌≤◌, false, Some, ◌++◌, Option, ◌+◌, inr, ◌-◌, Result, None, append-nil, take, ◌<◌, append_assoc, not, length-append, ◌⊎◌, take-add, map, suc, get_or, drop-drop, length-drop, ◌≢◌, vec_len, zero, nat_lt, add-one}
+pub use Rattle.std.proofs.lemmas.Bool.{cond_both}
+pub use Rattle.std.proofs.lemmas.List.{drop_all, take-append-drop, take-take, nil_from_length}
 pub use Rattle.std.proofs.lemmas.Result.{err_from_is_err_and}
-pub use Rattle.std.specs.Io.KnownBytes.{Appends, IsAtEnd, Keeps, Consumes}
-pub use Rattle.std.specs.List.{cons_option, onto_first, filter_map}
-pub use Rattle.std.specs.Prelude.{slice_range, IfSome, max, ◌&&◌, IsFalse, ◌||◌, OnOk, filter, option_map, OnErr, ◌==◌, reverse, is_err}
+pub use Rattle.std.specs.Io.KnownBytes.{IsAtEnd, Keeps, Consumes}
+pub use Rattle.std.specs.List.{onto_first, filter_map}
+pub use Rattle.std.specs.Prelude.{slice_range, IfSome, max, ◌&&◌, ◌||◌, option_map, ◌==◌, reverse}
 pub use Rattle.krb_ktutil.specs.InputLines.{HasNone, Grows, lines_of, InputParts, IsFirst, IsWithin, IsSpent, CutsOff, HasNoMore, ReadsLine, with_newlines}
-pub use Rattle.krb_ktutil.specs.KtutilCommand.{Awaited, options_in, AwaitKey, asks_for_password, Command, WriteFile, after, command_of, ReadFile, with_option, columns_in, AddOptions, is_new_key, command_by, plain_columns, has_password, no_options, awaited_by, verb_of, words, unindented, size_from, word_size, trimmed, parts_from, is_word, is_blank, asks_for_help, fault_error}
-pub use Rattle.krb_ktutil.specs.KtutilPlan.{line_effect, ComesDue, EndsAt, IsCame, Spares, MakesLine, Tries, RefusesAdded, Attempts, RunsOut, Comes, KtutilState, with_added, Added, none_added, plan_of, Came, line_faults, fails, with_key, after_fault, with_entries, LinePlan, saved_as, words_plan, plan_by, command_plan, written_to, writing_plan, key_line}
+pub use Rattle.krb_ktutil.specs.KtutilCommand.{Awaited, options_in, AwaitKey, asks_for_password, Command, WriteFile, after, command_of, ReadFile, with_option, columns_in, AddOptions, is_new_key, plain_columns, has_password, no_options, words, unindented, size_from, word_size, trimmed, parts_from, is_word, is_blank, fault_error}
+pub use Rattle.krb_ktutil.specs.KtutilPlan.{line_effect, ComesDue, EndsAt, IsCame, Spares, MakesLine, Tries, RefusesAdded, Attempts, RunsOut, Comes, KtutilState, with_added, Added, none_added, plan_of, Came, line_faults, fails, after_fault, with_entries, LinePlan, words_plan, plan_by, command_plan, written_to, writing_plan}
 pub use Rattle.krb_ktutil.specs.KtutilTalk.{Prompts, prompt_of, PromptsOn, Talk, first_talk, goes_on, HandlesLine, TalksOver, AreFirst, EndsTalk, RunsKtutil, HandlesNext}
 pub use Rattle.krb_ktutil.specs.declared.ktutil.awaiting.Awaiting.{Awaiting}
-pub use Rattle.krb_ktutil.specs.declared.ktutil.awaiting.Awaiting.TheVariants.{Nothing, Password, Key}
+pub use Rattle.krb_ktutil.specs.declared.ktutil.awaiting.Awaiting.TheVariants.{Nothing, Key}
 pub use Rattle.krb_driver.proofs.Shown.{end_status-none, Writes-nothing}
 pub use Rattle.krb_driver.specs.Commands.{Fails, Effect}
-pub use Rattle.krb_driver.specs.Runs.{ErrorWatch, ReportsEnd, WritesOn}
+pub use Rattle.krb_driver.specs.Runs.{ErrorWatch, ReportsEnd}
 pub use Rattle.krb_driver.specs.FileNames.{is_other_type, bare_name, has_type}
-pub use Rattle.krb_driver.specs.Loading.{keytab_or_empty, keytab_in, EndsLoads, GivesOrIsSpent, result_map}
-pub use Rattle.krb_driver.specs.RunErrors.{error_status, input_error, is_spent, end_status}
-pub use Rattle.krb_files.specs.Bytes.{Watch, is_failed, Source, AppendsPrefix}
-pub use Rattle.krb_files.specs.Loading.{Answer, LoadsFile, most_bytes}
+pub use Rattle.krb_driver.specs.Loading.{keytab_or_empty, keytab_in, EndsLoads, GivesOrIsSpent}
+pub use Rattle.krb_driver.specs.RunErrors.{error_status, input_error, end_status}
+pub use Rattle.krb_files.specs.Bytes.{is_failed, Source}
+pub use Rattle.krb_files.specs.Loading.{Answer, most_bytes}
 pub use Rattle.krb_files.specs.Plan.{Ends, Loads, follow, by, Holds}
 pub use Rattle.krb_files.specs.declared.files.Files.{Ghosts}
 pub use Rattle.krb_keytab.specs.Entry.{EntryParts, entry_at}
@@ -27,9 +27,8 @@ pub use Rattle.krb_keytab.specs.Store.{KeytabState, entries, store_of}
 pub use Rattle.krb_text.specs.declared.line_fault.LineFault.{LineFault}
 pub use Rattle.krb_walk.specs.declared.refusal.Code.{Code}
 pub use Rattle.std.proofs.lemmas.Bool.Decides.{nat_tests}
-pub use Rattle.krb_driver.specs.declared.error.RunError.TheVariants.{OtherType}
 pub use Rattle.krb_driver.specs.declared.verdict.FileKind.TheVariants.{Keytab}
-pub use Rattle.krb_walk.specs.Store.{fault_of, Record, records}
+pub use Rattle.krb_walk.specs.Store.{Record, records}
 pub use Rattle.krb_files.proofs.PlanLaws.{Lasts, comes, loaded-lasts}
 pub use Rattle.krb_driver.proofs.Running.{finishes-keeps, finishes-lasts}
 pub use Rattle.std.proofs.lemmas.Grind.{common_steps, flat_map-append}

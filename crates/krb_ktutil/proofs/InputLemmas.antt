@@ -1,5 +1,5 @@
 -- Lines that were read from an input, which is split at newlines.
-use Rattle.krb_ktutil.proofs.Cited.{◌==◌, false, onto_first, ◌≡◌, ℕ, ◌+◌, ◌-◌, ◌<◌, ◌≤◌, List, [], ◌∷◌, ◌++◌, length, take, drop, Option, Some, None, refl, sym, ap, subst, ◌∙◌, arith, length-append, append_assoc, append-nil, take-add, slice_range, lines_of, HasNone, Grows, drop-drop, Keeps, take-append-drop, take-take, IsFirst, inl, inr, IfSome, length-drop, nat_lt, IsAtEnd, take-append-le, drop_all, lt-ltb, InputParts, ReadsLine, AreFirst, nil_from_length, common_steps, Consumes-trans, true, Consumes, with_newlines, flat_map-append, IsSpent, IsWithin, HasNoMore, CutsOff, most_bytes, ◌⊎◌, false≢true, nat_tests}
+use Rattle.krb_ktutil.proofs.Cited.{◌==◌, false, onto_first, ◌≡◌, ℕ, ◌+◌, ◌-◌, ◌<◌, ◌≤◌, List, [], ◌∷◌, ◌++◌, length, take, drop, Option, Some, refl, sym, ap, subst, ◌∙◌, arith, length-append, append_assoc, append-nil, take-add, slice_range, lines_of, HasNone, Grows, drop-drop, Keeps, take-append-drop, take-take, IsFirst, inl, inr, IfSome, length-drop, nat_lt, IsAtEnd, drop_all, InputParts, ReadsLine, AreFirst, nil_from_length, common_steps, Consumes-trans, true, Consumes, with_newlines, flat_map-append, IsSpent, IsWithin, HasNoMore, CutsOff, most_bytes, ◌⊎◌, nat_tests}
 use Rattle.std.specs.List.{AllByRecursion}
 use Rattle.krb_wire.proofs.Lists.{all_front, all_join}
 use Rattle.std.proofs.lemmas.List.Folds.{drop_split}
@@ -37,19 +37,11 @@ HasNone-sooner xs a end most le h = subst HasNone (take-take (most - a) (end - a
 
 -- the first newline from one place on is that from an earlier one, if there is none between
 pub IsFirst-earlier : (xs : List ℕ) (a b c : ℕ) → a ≤ b → HasNone (slice_range xs a b) → IsFirst xs b c → IsFirst xs a c
-IsFirst-earlier xs a b c le none first =
-    let ahead = first.ahead in
-    let parts = parts_touch xs a b c le ahead in
-    record {
-      ahead = omega (arith, le, ahead);
-      before = rw parts (all_join IsOther (slice_range xs a b) (slice_range xs b c) none first.before);
-      rest = first.rest;
-    }
+IsFirst-earlier xs a b c le none first = grind (arith, first.ahead, first.before, first.rest, parts_touch xs a b c, all_join IsOther (slice_range xs a b) (slice_range xs b c))
 
 -- no newline from an earlier place on, if there is none between and none after
 pub HasNone-earlier : (xs : List ℕ) (a b : ℕ) → a ≤ b → HasNone (slice_range xs a b) → HasNone (drop b xs) → HasNone (drop a xs)
-HasNone-earlier xs a b le none rest =
-    rw (drop_split xs a b le) (all_join IsOther (slice_range xs a b) (drop b xs) none rest)
+HasNone-earlier xs a b le none rest = grind (arith, drop_split xs a b le, all_join IsOther (slice_range xs a b) (drop b xs))
 
 -- nor up to another place
 pub none_up_to : (xs : List ℕ) (a b most : ℕ) → a ≤ b → HasNone (slice_range xs a b) → HasNone (drop b xs) → HasNone (slice_range xs a most)
@@ -57,16 +49,14 @@ none_up_to xs a b most le none rest = HasNone-take (most - a) (drop a xs) (HasNo
 
 -- the bytes up to the old end have no newline, also after a read
 pub HasNone-grown : (old new given : List ℕ) (a : ℕ) → new ≡ old ++ given → a ≤ length old → HasNone (drop a old) → HasNone (slice_range new a (length old))
-HasNone-grown old new given a e le none =
-    let same : slice_range (old ++ given) a (length old) ≡ drop a old = grind (arith, common_steps, le) in
-    rw (e, same) none
+HasNone-grown old new given a e le none = grind (arith, common_steps)
 
 -- ---- lines
 
 -- the first line ends at the first newline
 lines-first : (xs ys : List ℕ) → HasNone xs → lines_of (xs ++ 10 ∷ ys) ≡ xs ∷ lines_of ys
 lines-first [] ys h = refl
-lines-first (x ∷ xs) ys h = rw h.0 (ap (onto_first x) (lines-first xs ys h.1))
+lines-first (x ∷ xs) ys h = grind (arith, lines-first xs ys h.1)
 
 -- without a newline the bytes are one line, if there are any
 line-alone : (line : List ℕ) → HasNone line → 0 < length line → lines_of line ≡ line ∷ []
@@ -94,19 +84,15 @@ up_to_newline xs a end first =
 pub ReadsLine-first : (old new : InputParts) (left left' : Option (List ℕ)) (end : ℕ) → old.next ≤ length old.read → IsFirst new.read old.next end → Grows old.read new.read left left'
     → new.line ≡ slice_range new.read old.next end → new.next ≡ end + 1 → end < 16777216 → ReadsLine true old new left'
 ReadsLine-first old new left left' end le is grows line next most =
-    let front : take old.next new.read ≡ take old.next old.read = ap (take old.next) grows.read ∙ take-append-le old.next old.read grows.given le in
-    record {
-      further = sym (lt-ltb old.next new.next (let ahead = is.ahead in omega (arith, ahead, next)));
-      none = rw line is.before;
-      ends = inl (refl, record { within = omega (arith, next, most); read = grind (arith, up_to_newline new.read old.next end is, front) });
-    }
+    let front : take old.next new.read ≡ take old.next old.read = grind (arith, common_steps, grows.read) in
+    grind (arith, nat_tests, is.ahead, is.before, up_to_newline new.read old.next end is, front)
 
 -- what is left at the end of the input is a line, or nothing is left
 pub ReadsLine-last : (old new : InputParts) (left : Option (List ℕ)) → HasNone (drop old.next new.read) → IsAtEnd left
     → new.line ≡ slice_range new.read old.next (length new.read) → new.next ≡ length new.read → ReadsLine (nat_lt old.next (length new.read)) old new left
 ReadsLine-last old new left none end line next =
     let rest : new.line ≡ drop old.next new.read = grind (arith, common_steps, line) in
-    record { further = rw next refl; none = rw rest none; ends = inr (record { at_end = end; all = next }, rest) }
+    grind (arith, none, end)
 
 -- ---- the lines of an input
 
@@ -134,8 +120,7 @@ abbrev pub HasRead : Option (List ℕ) → List (List ℕ) → InputParts → Op
 HasRead given lines input left = AreEnded lines input ⊎ IfSome given (λ bytes. (lines_of bytes ≡ lines) × IsSpent input left)
 
 pub if_some : {P Q : List ℕ → Type 0} (given : Option (List ℕ)) → ((bytes : List ℕ) → P bytes → Q bytes) → IfSome given P → IfSome given Q
-if_some None f h = tt
-if_some (Some bytes) f h = f bytes h
+if_some given f h = grind (arith, f)
 
 -- what is known of an input is what was read of it and what is left
 pub consumed_as : (given left : Option (List ℕ)) (read : List ℕ) → Consumes given left read → IfSome given (λ bytes. (more : List ℕ) × ((left ≡ Some more) × (bytes ≡ read ++ more)))
@@ -154,8 +139,7 @@ HasRead-first given lines input left (inl ended) consumes =
 
 -- after its end an input that is known gives no line
 no_further : (given left left' : Option (List ℕ)) (old new : InputParts) (P Q : List ℕ → Type 0) → Consumes given left old.read → IfSome given (λ bytes. P bytes × IsSpent old left) → Grows old.read new.read left left' → old.next < length new.read → IfSome given Q
-no_further None left left' old new P Q consumes all grows more = tt
-no_further (Some bytes) left left' old new P Q consumes all grows more = grind (arith, consumes, grows.consumes, all.1.at_end, all.1.all, grows.read, common_steps, length-append)
+no_further given left left' old new P Q consumes all grows more = grind (arith, consumes, grows.consumes, all, grows.read, common_steps, length-append)
 
 -- an input is read further
 module _ (given left left' : Option (List ℕ)) (lines : List (List ℕ)) (old new : InputParts) (within : IsWithin old) (consumes : Consumes given left old.read) (grows : Grows old.read new.read left left') where
@@ -175,31 +159,17 @@ module _ (given left left' : Option (List ℕ)) (lines : List (List ℕ)) (old n
   -- one more line was read
   pub HasRead-line : ReadsLine true old new left' → IsWithin new → HasRead given lines old left → HasRead given (lines ++ new.line ∷ []) new left'
   HasRead-line reads within' has =
-      let lt : old.next < new.next = grind (arith, nat_tests, reads.further) in
-      elim has [
-        | inl before ↦ elim reads.ends [
-          | inl newline ↦ inl (record {
-            within = newline.1.within;
-            read = newline.1.read ∙ ap (λ (bs : List ℕ). bs ++ (new.line ++ 10 ∷ [])) before.read ∙ sym (newline_more lines new.line);
-            none = all_join HasNone lines (new.line ∷ []) before.none (reads.none, tt);
-          })
-          | inr last ↦
-              let some : 0 < length new.line = (let all = last.0.all in rw last.1 omega (arith, lt, all, length-drop old.next new.read)) in
-              inr (if_some given (λ bytes is. (is ∙ ap (λ (l : List (List ℕ)). lines ++ l) (ap lines_of (sym last.1) ∙ line-alone new.line reads.none some), last.0)) (rest_lines before last.0.at_end))
-        ]
-        | inr all ↦ inr (no_further given left left' old new (λ bytes. lines_of bytes ≡ lines) _ consumes all grows (omega (arith, lt, within'.next)))
-      ]
+      let rest = rest_lines in
+      let none = all_join HasNone lines (new.line ∷ []) in
+      let alone = line-alone new.line reads.none in
+      let no_more = no_further given left left' old new (λ bytes. lines_of bytes ≡ lines) (λ bytes. (lines_of bytes ≡ lines ++ new.line ∷ []) × IsSpent new left') consumes in
+      grind (arith, nat_tests, reads.further, reads.none, reads.ends, has, rest, newline_more lines new.line, none, alone, no_more, grows, within'.next, length-drop)
 
   -- there was no further line
   pub HasRead-end : ReadsLine false old new left' → HasRead given lines old left → AreLines given lines
-  HasRead-end reads (inr all) = if_some given (λ bytes is. is.0) all
-  HasRead-end reads (inl before) = elim reads.ends [
-    | inl newline ↦ absurd (false≢true newline.0)
-    | inr last ↦
-        let le : new.next ≤ old.next = grind (arith, nat_tests, reads.further) in
-        let nothing : drop old.next new.read ≡ [] = (let all = last.0.all in drop_all old.next new.read (omega (arith, le, all))) in
-        subst (AreLines given) (ap (λ (bs : List ℕ). lines ++ lines_of bs) nothing ∙ append-nil lines) (rest_lines before last.0.at_end)
-  ]
+  HasRead-end reads has =
+      let rest = rest_lines in
+      grind (arith, nat_tests, reads.further, reads.ends, has, rest, drop_all, append-nil)
 
   -- of what was read each line that has its newline was run
   pub due_of : HasNoMore old new → AreEnded lines old → CutsOff lines (take most_bytes new.read)

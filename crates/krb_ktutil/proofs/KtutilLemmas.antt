@@ -1,34 +1,14 @@
 -- The lines of ktutil, one after the other, and their prompts.
-use Rattle.krb_ktutil.proofs.Cited.{◌≡◌, ℕ, Bool, true, false, List, [], ◌++◌, refl, sym, Result, Ok, Err, false≢true, Watch, ErrorWatch, Prompts, OnOk, OnErr, is_err, IsFalse, Appends, AppendsPrefix, WritesOn, Writes-nothing, PromptsOn, inl, inr, ◌+◌, ◌<◌, ◌≤◌, ◌∷◌, length, length-append, subst, arith, max, Option, None, Some, Ghosts, input_error, error_status, Grows, Talk, first_talk, ◌≢◌, ◌||◌, Consumes, InputParts, HasNoMore, IsWithin, most_bytes, EndsTalk, TalksOver, prompt_of, Source, is_failed, Appends-trans, AppendsPrefix-after, AppendsPrefix-all, Order, LoadFault, HandlesNext, RunsKtutil, Details, nat_tests, ReportsEnd, ReadsLine, ◌∙◌, append_assoc, append-nil}
+use Rattle.krb_ktutil.proofs.Cited.{◌≡◌, ℕ, Bool, true, false, List, [], ◌++◌, refl, Err, ErrorWatch, Prompts, Writes-nothing, PromptsOn, inl, inr, ◌+◌, ◌<◌, ◌≤◌, ◌∷◌, length, length-append, arith, max, Option, None, Ghosts, input_error, error_status, Grows, Talk, first_talk, ◌≢◌, ◌||◌, Consumes, InputParts, HasNoMore, IsWithin, most_bytes, EndsTalk, TalksOver, prompt_of, Source, is_failed, Order, LoadFault, HandlesNext, RunsKtutil, Details, nat_tests, ReportsEnd, ReadsLine, append_assoc, append-nil}
 use Rattle.krb_files.specs.declared.files.LoadFault.TheVariants.{Missing, TooLarge}
 use Rattle.krb_driver.specs.declared.command.World.{World}
 use Rattle.krb_ktutil.proofs.InputLemmas.{HasRead, HasRead-end, HasRead-first, HasRead-line, consumed, consumed_as, due_of, if_some}
 
--- a text was put after what was written
-pub WritesOn-put : {T E : Type 0} (old new : Watch) (text : List ℕ) (put : Result T E) → IsFalse old.failed → OnOk put (Appends old.contents new.contents text) → OnErr put (AppendsPrefix old.contents new.contents text)
-    → new.failed ≡ is_err put → WritesOn old new text
-WritesOn-put old new text (Ok x) well all prefix failed = λ start before writes.
-    let whole = Appends-trans start.contents old.contents new.contents before text (writes.whole well) all in
-    record { prefix = AppendsPrefix-all start.contents new.contents (before ++ text) whole; whole = λ _. whole }
-WritesOn-put old new text (Err e) well all prefix failed = λ start before writes. record {
-  prefix = AppendsPrefix-after start.contents old.contents new.contents before text (writes.whole well) prefix;
-  whole = λ well'. absurd (false≢true (sym well' ∙ failed));
-}
-
--- no prompt was written yet
-Prompts-none : (prompts : Bool) (err : ErrorWatch) → Prompts prompts [] err err
-Prompts-none true err = (Writes-nothing err.to, refl)
-Prompts-none false err = refl
-
 -- a prompt was written
 pub Prompts-first : (prompts : Bool) (prompt : List ℕ) (old new : ErrorWatch) → PromptsOn prompts prompt old new → Prompts prompts prompt old new
-Prompts-first prompts prompt old new on = on old [] (Prompts-none prompts old)
+Prompts-first prompts prompt old new on = on old [] (grind (arith, Writes-nothing))
 
 -- ---- the lines of ktutil, one after the other
-
-none_consumed : (given : Option (List ℕ)) → Consumes given given []
-none_consumed None = tt
-none_consumed (Some bytes) = refl
 
 -- lines were run, and the run goes on
 pub record Underway {F : Type 0} (trait : Ghosts F) (prompts : Bool) (now : ℕ) (given : Option (List ℕ)) (first : Talk F) (input : InputParts) (left : Option (List ℕ)) (number : ℕ) (talk : Talk F) : Type 0 where
@@ -42,16 +22,15 @@ pub record Underway {F : Type 0} (trait : Ghosts F) (prompts : Bool) (now : ℕ)
 
 module _ {F : Type 0} (trait : Ghosts F) (prompts : Bool) (now : ℕ) (given : Option (List ℕ)) where
   pub Underway-first : (first : Talk F) → (input : InputParts) → input ≡ record { read = []; line = []; next = 0 } → Underway trait prompts now given first input given 0 first
-  Underway-first first input is =
-      subst (λ (i : InputParts). Underway trait prompts now given first i given 0 first) (sym is) (record {
-        lines = [];
-        talked = λ more end others. others;
-        counted = refl;
-        has_read = inl (record { within = omega arith; read = refl; none = tt });
-        consumes = none_consumed given;
-        within = record { next = omega arith; most = omega arith };
-        below = omega arith;
-      })
+  Underway-first first input is = rw is (record {
+    lines = [];
+    talked = λ more end others. others;
+    counted = refl;
+    has_read = inl (record { within = omega arith; read = refl; none = tt });
+    consumes = grind arith;
+    within = record { next = omega arith; most = omega arith };
+    below = omega arith;
+  })
 
   pub Underway-line : (first : Talk F) (old new : InputParts) (left left' : Option (List ℕ)) (number : ℕ) (talk talk' : Talk F) (asked : ErrorWatch) → Underway trait prompts now given first old left number talk
       → ReadsLine true old new left' → Grows old.read new.read left left' → IsWithin new
@@ -62,7 +41,7 @@ module _ {F : Type 0} (trait : Ghosts F) (prompts : Bool) (now : ℕ) (given : O
       let further : old.next < new.next = grind (arith, nat_tests, reads.further) in
       record {
         lines = u.lines ++ new.line ∷ [];
-        talked = λ more end others. subst (λ (lines : List (List ℕ)). TalksOver trait now prompts 1 lines first end) (sym (append_assoc u.lines (new.line ∷ []) more)) (u.talked (new.line ∷ more) end (asked, talk', prompted, continues, others));
+        talked = λ more end others. rw append_assoc (u.talked (new.line ∷ more) end (asked, talk', prompted, continues, others));
         counted = omega (arith, counted, length-append u.lines (new.line ∷ []));
         has_read = HasRead-line given left left' u.lines old new u.within u.consumes grows reads within u.has_read;
         consumes = consumed given left left' u.lines old new u.within u.consumes grows;
@@ -76,7 +55,7 @@ module _ {F R W E : Type 0} {trait : Ghosts F} {prompts : Bool} {now : ℕ} {ord
   consumes = consumed world.input.left left last.left u.lines old new u.within u.consumes grows
 
   talked : TalksOver trait now prompts 1 u.lines (first_talk order world.files world.out world.err) talk
-  talked = subst (λ (lines : List (List ℕ)). TalksOver trait now prompts 1 lines (first_talk order world.files world.out world.err) talk) (append-nil u.lines) (u.talked [] talk refl)
+  talked = rw append-nil at (u.talked [] talk refl)
 
   runs : (end : Talk F) → EndsTalk trait now prompts world.input last u.lines talk end → RunsKtutil trait order prompts now world (record { files = end.files; input = last; out = end.out; err = end.err }) end.status
   runs end ends = record {
@@ -104,7 +83,7 @@ module _ {F R W E : Type 0} {trait : Ghosts F} {prompts : Bool} {now : ℕ} {ord
         well = well;
         asked = asked;
         prompted = prompted;
-        stops = subst (λ (n : ℕ). HandlesNext trait now (n + 1) new.line (record talk { err = asked }) talk' false) u.counted stops;
+        stops = rw u.counted at stops;
       })))
 
   -- the input was not read further

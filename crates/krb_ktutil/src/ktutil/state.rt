@@ -141,7 +141,7 @@ impl<A: Allocator + Copy> Ktutil<A> {
     }
 
     // Runs the command of a line.
-    #[tactic(auto, using(crate::proofs::KtutilHandles::commands))]
+    #[tactic(auto, using(crate::proofs::KtutilHandles::makes_end))]
     fn command<'l, F: Files>(
         &mut self,
         files: &mut F,
@@ -170,7 +170,7 @@ impl<A: Allocator + Copy> Ktutil<A> {
     }
 
     // Runs a line that is not awaited.
-    #[tactic(auto, using(crate::proofs::KtutilHandles::outcomes))]
+    #[tactic(auto, using(crate::proofs::KtutilHandles::tried_fault))]
     fn run_words<'l, F: Files>(&mut self, files: &mut F, number: u64, line: &'l [u8]) -> Line<'l, A>
         ensures { MakesLine F.Files (words_plan self.old number (words line.now) (command_of line.now (length self.old.entries)))
             files.old files.new self.old self.new (line_effect result) result.quits }
@@ -186,7 +186,7 @@ impl<A: Allocator + Copy> Ktutil<A> {
     }
 
     // Runs a line by its plan.
-    #[tactic(auto, using(crate::proofs::KtutilHandles::lines))]
+    #[tactic(auto, using(crate::proofs::KtutilHandles::makes_end))]
     fn run_line<'l, F: Files>(
         &mut self,
         files: &mut F,

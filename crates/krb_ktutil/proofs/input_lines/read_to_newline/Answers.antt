@@ -21,7 +21,6 @@ returns-in_err-last-clause-none g c =
 pub reads-preserved : goal.reads-preserved
 reads-preserved g c =
     let old = c.reads.bytes in
-    let new = c.append_read.new.bytes in
     let given = c.in_ok-last.ensures.given in
     let len = c.in_ok-last.ensures.len in
     let was = old.ok.0 in
@@ -34,8 +33,6 @@ reads-preserved g c =
       within = (let room = c.min-room.ensures in let most = c.if-seen-most.false in omega (arith, room, most, len, seen));
       ahead = (omega (arith, ahead, seen), omega (arith, len, seen));
       failed = c.in_ok-last.ensures.failed ∙ c.reads.invariant.failed;
-      none = rw at_end at (HasNone-grown old.items new.items given.0 c.args.next given.1 (omega (arith, ahead, was)) none);
-      grows = Grows-trans c.args.bytes.now.items old.items new.items c.args.reader.now.left c.reads.reader.left c.append_read.new.reader.left
-          c.reads.invariant.grows
-          (record { given = given.0; read = given.1; consumes = given.2 });
+      none = rw at_end at (HasNone-grown old.items c.append_read.new.bytes.items given.0 c.args.next given.1 (omega (arith, ahead, was)) none);
+      grows = Grows-trans _ _ _ _ _ _ c.reads.invariant.grows (record { given = given.0; read = given.1; consumes = given.2 });
     }

@@ -1,4 +1,4 @@
-use Rattle.krb_ktutil.proofs.ForAnswers.{◌≡◌, ◌+◌, Bool, ap, refl, subst, sym, ◌∙◌, max, Err, first_talk, error_status, input_error, ◌||◌, end_status, end_status-none, Source, is_failed, RunsKtutil, Prompts-first, Underway, Underway-first, Underway-line, RunsKtutil-after, RunsKtutil-in_line, RunsKtutil-unread}
+use Rattle.krb_ktutil.proofs.ForAnswers.{◌≡◌, Bool, ap, refl, sym, ◌∙◌, max, Err, first_talk, error_status, input_error, ◌||◌, end_status, end_status-none, Source, is_failed, Prompts-first, Underway-first, Underway-line, RunsKtutil-after, RunsKtutil-in_line, RunsKtutil-unread}
 use Rattle.krb_ktutil.proofs.ktutil.run_ktutil.Goals as goal
 
 pub lines-init : goal.lines-init

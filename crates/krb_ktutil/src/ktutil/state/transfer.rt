@@ -105,6 +105,7 @@ impl<A: Allocator + Copy> Ktutil<A> {
     }
 
     // Appends the entries of the file that a word names, unless its type is not read.
+    #[tactic(auto, using(crate::proofs::KtutilHandles::makes_end))]
     pub(crate) fn read<'l, F: Files>(
         &mut self,
         files: &mut F,
