@@ -1,8 +1,8 @@
 -- The text of an object with arrays in it, in pieces.
-use Rattle.krb_json.proofs.Cited.{◌≡◌, ℕ, Bool, true, false, List, [], ◌∷◌, ◌++◌, fold, refl, sym, ap, ◌∙◌, append_assoc, Token, begin_object, end_object, begin_array, end_array, key, json_tokens, items_tokens, members_tokens, escaped, text_of, Member, members_of, object_of, array_of, member_tokens, tokens_of, element_text, elements_text, head_tokens, between_tokens, fold-append, items_of}
+use Rattle.krb_json.proofs.Cited.{◌≡◌, ℕ, Bool, true, false, List, [], ◌∷◌, ◌++◌, fold, refl, sym, ap, ◌∙◌, append_assoc, Token, begin_object, end_object, begin_array, end_array, key, json_tokens, items_tokens, members_tokens, text_from, text_of, Member, members_of, object_of, array_of, member_tokens, tokens_of, element_text, elements_text, head_tokens, between_tokens, fold-append, items_of}
 use Rattle.json.specs.Json.{Json, boolean, array, object, Items, no_items, item, Members, no_members, member}
-use Rattle.json.specs.Print.{print_from, ends, ends_value}
-use Rattle.krb_json.proofs.EscapedLemmas.{escaped-plain, text_from, text_from-append}
+use Rattle.json.specs.Print.{ends, ends_value}
+use Rattle.krb_json.proofs.EscapedLemmas.{text_from-append}
 
 -- ---- a value alone
 
@@ -22,21 +22,17 @@ mutual
   members_end c (member k j ms) = fold-append (λ _ t. ends t) false (json_tokens j) (members_tokens ms) ∙ members_end (fold (λ _ t. ends t) false (json_tokens j)) ms
 
 -- after another value, a comma comes first
-comma_begins : (v : Json) → print_from true (json_tokens v) ≡ 44 ∷ print_from false (json_tokens v)
-unfolding print_from
-comma_begins (boolean true) = refl
-comma_begins (boolean false) = refl
-comma_begins _ = refl
-
 value_begins : (c : Bool) (v : Json) → text_from c (json_tokens v) ≡ element_text c v
+unfolding text_from
 value_begins false v = refl
-value_begins true v = ap escaped (comma_begins v) ∙ escaped-plain 44 (print_from false (json_tokens v)) refl refl
+value_begins true (boolean b) = refl
+value_begins true _ = refl
 
 -- ---- arrays
 
 -- there is no comma before the end of an array
 array_ends : (c : Bool) (ts : List Token) → text_from c (end_array ∷ ts) ≡ text_of (end_array ∷ ts)
-unfolding print_from
+unfolding text_from
 array_ends true ts = refl
 array_ends false ts = refl
 

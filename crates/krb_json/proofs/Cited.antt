@@ -1,18 +1,22 @@
 -- The names that the proofs cite most, passed on from one place. Declares nothing.
 unfoldable pub use Rattle.krb_json.specs.Cache.{own_members, size_members, flag_members, time_members, ticket_value, party_members, cache_members, cache_value, config_value}
 unfoldable pub use Rattle.krb_json.specs.Check.{check_members, about_members, check_value, refused_value}
-unfoldable pub use Rattle.krb_json.specs.Escaped.{escaped}
+unfoldable pub use Rattle.krb_wire.specs.Controls.{escaped}
+unfoldable pub use Rattle.krb_json.specs.Escaped.{text_from}
 unfoldable pub use Rattle.krb_json.specs.Keytab.{entry_value, keytab_value, key_members, owner_members}
 unfoldable pub use Rattle.krb_json.specs.Members.{file_members, etype_members, text_member}
-pub use Rattle.std.proofs.Common.{◌++◌, ◌∙◌, [], sym, ap, ◌≡◌, ◌∷◌, false, List, ℕ, codes, refl, Bool, append_assoc, Some, true, subst, None, Option, cond, ◌<◌, ◌≤◌, arith, append-nil, length, ◌^◌, map, rules, option_and_then, suc, inr, fold, inl, take, ◌==◌, ◌%◌, Err, IsAscii, ◌&&◌, IsUtf8, ◌+◌, ap₂, Ok, Result, is_some, zero, drop, ◌/◌, Bor, get_or, ℤ, pos, option_map, w64}
-pub use Rattle.std.proofs.lemmas.Bool.{lt-ltb, ne_eqb, and_parts, leb-true, false≢true, ltb-true, or_parts, eqb-true, cases_lt, or_cases, cases_Bool, le-ltb, and_right, cases_eq, and_left, ltb-false, not-true, and_from, lt-leb, false_from_ne_true}
+pub use Rattle.std.proofs.Common.{◌++◌, ◌∙◌, [], sym, ap, ◌≡◌, ◌∷◌, false, List, ℕ, codes, refl, Bool, append_assoc, Some, true, subst, None, Option, cond, ◌<◌, ◌≤◌, arith, append-nil, length, ◌^◌, map, rules, option_and_then, suc, inr, fold, inl, take, ◌==◌, ◌%◌, Err, IsAscii, ◌&&◌, IsUtf8, ◌+◌, ap₂, Ok, Result, zero, drop, ◌/◌, Bor, get_or, ℤ, pos, option_map, w64}
+pub use Rattle.std.proofs.lemmas.Bool.{lt-ltb, and_parts, ltb-true, or_parts, cases_Bool, cases_eq, and_from, false_from_ne_true}
+pub use Rattle.std.proofs.lemmas.Bool.Decides.{nat_tests}
 pub use Rattle.std.proofs.lemmas.Result.{on_ok_weaker, err_from_is_err_and, on_err_weaker, IfOk-weaker}
 pub use Rattle.std.specs.List.{flat_map, list_any, cons_option, prefix_len}
 pub use Rattle.std.specs.Prelude.{IsFalse, ltb, filter, ⊤, slice_index_or}
-pub use Rattle.std.specs.Str.{is_utf8, bytes_eq}
+pub use Rattle.std.specs.Str.{is_utf8}
 pub use Rattle.krb_json.specs.Cache.{own_server_member, offset_value, integer_or_null, name_of_etype, config_values, ticket_values, shown_values, about_member, cache_json_text, shown_by}
 pub use Rattle.krb_json.specs.Check.{mode_value, finding_value, missing_value, entry_finding, entry_findings, finding_values, check_json_text}
-pub use Rattle.krb_json.specs.Escaped.{text_of, is_special, is_pair, json_text, escape, is_second, single}
+pub use Rattle.krb_wire.specs.Controls.{added, escape, is_second}
+pub use Rattle.krb_wire.specs.declared.controls.Style.TheVariants.{Json as in_json}
+pub use Rattle.krb_json.specs.Escaped.{json_text, shown, text_of, within}
 pub use Rattle.krb_json.specs.Keytab.{entry_values, keytab_json_text}
 pub use Rattle.krb_json.specs.Members.{number_of, Member, object_of, members_of, text_or_null, fault_value, array_of, digits_of, status_members}
 pub use Rattle.krb_json.specs.Pieces.{elements_text, ArePlain, member_tokens, head_tokens, between_tokens, element_text, tokens_of, tail_tokens, arrays_text, Adds, AddsAfter, Begins}
@@ -41,4 +45,4 @@ pub use Rattle.krb_text.specs.Flags.{flag_table, is_set, flag_letters_of}
 pub use Rattle.json.specs.Value.{items_of}
 pub use Rattle.krb_ccache.specs.Header.{offset_in}
 pub use Rattle.krb_ccache.specs.Ticket.{ticket_encryption, ticket_server}
-pub use Rattle.json.proofs.Printed.Strings.{content-escape, lex-escape, escape_byte_plain}
+pub use Rattle.json.proofs.Printed.Strings.{content-escape, lex-escape}

@@ -1,8 +1,8 @@
 pub mod Cited
 pub mod Texts
+pub mod EscapedNumbers
 pub mod EscapedLemmas
 pub mod EscapedStrings
-pub mod EscapedNumbers
 pub mod EscapedReads
 pub mod Arrays
 pub mod Chains

@@ -1,7 +1,6 @@
 //! A writer that escapes control characters, so that a terminal in UTF-8 does not act on what it prints.
 #![tactic(auto)]
 
-mod escape;
 mod screen;
 
 pub use screen::Screen;

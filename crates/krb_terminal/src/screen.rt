@@ -1,15 +1,37 @@
 //! A writer that escapes for a terminal.
 
-ghost use Rattle.std.specs.Prelude.{◌≡◌, ◌&&◌, ◌≤◌, [], length, min, take, true, IsFalse, IsTrue, IfOk, OnOk, OnErr};
+ghost use Rattle.std.specs.Prelude.{◌≡◌, ℕ, ◌&&◌, ◌≤◌, List, [], ◌++◌, length, min, take, IsFalse, IsTrue, IfOk, OnOk, OnErr};
 ghost use Rattle.std.specs.Io.{WritesAtMost};
 ghost use Rattle.std.specs.Io.KnownBytes.{Keeps, WriteAppends, Appends};
+ghost use Rattle.krb_wire.specs.Controls.{escaped};
+ghost use Rattle.krb_wire.specs.declared.controls.Style.TheVariants.{Terminal};
 ghost use Rattle.krb_files.specs.Bytes.{AppendsPrefix};
 ghost use Rattle.krb_terminal.specs.Screen.{Fails, Takes, finished, passed};
 
-use crate::escape::{FIRST, MOST, add};
 use arrayvec::ArrayVec;
+use krb_wire::controls::{FIRST, Style, add};
 use std::io::{self, ErrorKind, Write};
 use std::marker::Model;
+
+// The most bytes that are escaped at once: what messages are gathered in.
+const MOST: usize = 4352;
+
+// Room for what they add.
+const ROOM: usize = 9 * MOST;
+
+// Escapes bytes, after a c2 that may be held back. Returns whether one is held back now.
+#[tactic(auto, unfolding(krb_wire::specs::Controls::escaped))]
+fn escape(bytes: &[u8], holds: bool, text: &mut ArrayVec<u8, ROOM>) -> bool
+    requires few { length bytes.now ≤ 4352 }
+    requires empty { text.old.items ≡ [] }
+    ensures { (rest : List ℕ) → text.new.items ++ escaped Terminal result rest ≡ escaped Terminal holds (bytes.now ++ rest) }
+{
+    let mut holding = holds;
+    'bytes: for byte in bytes {
+        holding = add(Style::Terminal, *byte, holding, text);
+    }
+    holding
+}
 
 /// Writes all the bytes. A write that fails or takes no bytes is the last: a prefix of the bytes was written.
 pub fn send<W: Write>(writer: &mut W, bytes: &[u8]) -> io::Result<()>
@@ -60,6 +82,7 @@ impl<W: Write> Screen<W> {
     }
 
     /// Ends the output: writes a c2 that is held back.
+    #[tactic(auto, unfolding(krb_wire::specs::Controls::escaped))]
     pub fn finish(&mut self) -> io::Result<()>
         ensures ok { OnOk result (Keeps (finished self.old []) self.new.contents) }
         ensures ended { OnOk result (Keeps self.new.contents (finished self.new [])) }
@@ -89,7 +112,7 @@ impl<W: Write> Screen<W> {
     {
         let count = bytes.len().min(MOST);
         let mut text = ArrayVec::new();
-        let holds = add(&bytes[..count], self.holds, &mut text);
+        let holds = escape(&bytes[..count], self.holds, &mut text);
         self.holds = false;
         send(&mut self.writer, text.as_slice())?;
         self.holds = holds;

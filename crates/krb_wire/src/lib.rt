@@ -4,6 +4,7 @@
 
 mod atom;
 mod components;
+pub mod controls;
 mod counted;
 mod format;
 mod limits;
