@@ -30,7 +30,7 @@ pub use Rattle.krb_wire.specs.Spelling.{Parts}
 pub use Rattle.krb_copy.specs.declared.class.Class.{Class}
 pub use Rattle.std.proofs.lemmas.List.Elements.{recursion_from_All, filter_map-append, filter-append, All-from_recursion, All-head, All-tail, All-filter}
 pub use Rattle.krb_walk.specs.Rules.{Rules, PutGives}
-pub use Rattle.krb_copy.specs.DiffRows.{IsNumbering, shown, first_place, row_line, AreKeys, lacks, rows_due, to_key, marked, AreNumbers, class_number, row_due}
+pub use Rattle.krb_copy.specs.DiffRows.{IsNumbering, shown, first_place, row_line, AreKeys, lacks, rows_due, to_key, marked, class_number, entry_of, row_due}
 pub use Rattle.std.proofs.lemmas.Slice.Eq.{bytes_eq-Decides}
 pub use Rattle.krb_names.proofs.NameOrder.{names_tie}
 pub use Rattle.krb_names.specs.Hash.{name_cmp}

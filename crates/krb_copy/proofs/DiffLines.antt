@@ -1,16 +1,15 @@
 -- The lines of rows are those of differences.
-use Rattle.krb_copy.proofs.Cited.{◌≡◌, ℕ, ◌<◌, Bool, true, cond, List, [], ◌∷◌, ◌++◌, length, get_or, drop, Option, Some, None, refl, sym, ap, subst, ◌∙◌, arith, map, ◌||◌, ◌&&◌, not, ◌==◌, option_map, bytes_eq, list_any, flat_map, filter_map, find, eqb-true, eq-eqb, EntryParts, PlacedEntry, are_twins, are_same, codes, All, AllByRecursion, flat_map-append, All-from_recursion, flat_map-map, placed_line, Keys, Row}
+use Rattle.krb_copy.proofs.Cited.{◌≡◌, ℕ, ◌<◌, Bool, true, cond, List, [], ◌∷◌, ◌++◌, length, get_or, drop, Option, Some, None, refl, sym, ap, subst, ◌∙◌, arith, map, ◌||◌, ◌&&◌, not, ◌==◌, option_map, bytes_eq, list_any, flat_map, filter_map, find, EntryParts, PlacedEntry, are_twins, are_same, codes, All, AllByRecursion, flat_map-append, All-from_recursion, flat_map-map, placed_line, Keys, Row}
 use Rattle.krb_copy.specs.Diff.{Difference, Theirs, diff_text, difference_at, difference_by, difference_line, firsts, has_more_keys, has_twin}
-use Rattle.krb_copy.specs.DiffRows.{AreKeys, class_number, first_place, has_key, lacks, row_due, row_line, rows_due, shown}
+use Rattle.krb_copy.specs.DiffRows.{AreKeys, class_number, entry_of, first_place, has_key, lacks, row_due, row_line, rows_due, shown}
 use Rattle.krb_copy.proofs.Alike.{alike, twins_equiv}
-use Rattle.krb_copy.proofs.Numbers.{number_alike, position_at}
+use Rattle.krb_names.proofs.Numbered.{number_test, position_at}
 
 -- ---- classes have the same number iff their entries are twins
 
 pub numbers_agree : (x y : EntryParts) (all : List PlacedEntry) (n m : ℕ) → class_number x all ≡ Some n → class_number y all ≡ Some m → (m == n) ≡ are_twins x y
 numbers_agree x y all n m of_x of_y =
-    let z = get_or all n (0, x) in
-    grind (arith, of_x, of_y, position_at (λ (w : PlacedEntry). are_twins x w.1) all n (0, x) of_x, position_at (λ (w : PlacedEntry). are_twins y w.1) all n (0, x), twins_equiv.congr x z.1 y, twins_equiv.symm z.1 y, number_alike x y all, eqb-true m n, eq-eqb m n)
+    number_test entry_of are_twins twins_equiv y x all m n of_y of_x ∙ twins_equiv.symm y x
 
 -- ---- rows and their entries
 

@@ -6,5 +6,5 @@ pub use Rattle.krb_copy.proofs.DiffKeys.{all_marked, as_long, first_added, get_o
 pub use Rattle.krb_copy.proofs.FoundTexts.{AreAppended, AreFound, new_names, one_asked, own_names}
 pub use Rattle.krb_copy.proofs.LawHistories.{all_stay, are_histories}
 pub use Rattle.krb_copy.proofs.LawRuns.{changes_are_reported, others_stay}
-pub use Rattle.krb_copy.proofs.Numbers.{drop_here, numbers_next, one_more, row_is, take_here}
+pub use Rattle.krb_copy.proofs.Numbers.{drop_here, one_more, row_is, take_here}
 pub use Rattle.krb_copy.proofs.Runs.{IsOnTheWay, all_met, copied_run, ended, first_left, one_met, refusal_is, refused_run}

@@ -5,15 +5,14 @@ use Rattle.std.specs.Str.{bytes_eq}
 use Rattle.std.specs.declared.cmp.Ordering.{Ordering}
 use Rattle.std.specs.Ordering.{nat_cmp, ordering_then}
 use Rattle.std.specs.Cmp.Lexicographic.{slice_cmp}
-use Rattle.std.specs.BTreeMap.{BTreeMap, get}
 use Rattle.std.specs.BTreeSet.{contains_by}
 use denote.Ref.{Bor}
 use Rattle.krb_keytab.specs.Entry.{EntryParts}
 use Rattle.krb_keytab.specs.Find.{PlacedEntry}
 use Rattle.krb_keytab_text.specs.Listing.{placed_line}
 use Rattle.krb_names.specs.Twins.{are_twins}
-use Rattle.krb_names.specs.Hash.{name_cmp}
-use Rattle.krb_copy.specs.Classes.{ClassKey, IsClassKey}
+use Rattle.krb_names.specs.Numbers.{AreNumbers}
+use Rattle.krb_copy.specs.Classes.{IsClassKey}
 use Rattle.krb_copy.specs.Diff.{has_twin}
 use Rattle.krb_copy.specs.Texts.{AreTexts, name_texts}
 use Rattle.krb_copy.specs.declared.diff.Keys.{Keys}
@@ -37,15 +36,15 @@ abbrev pub rows_due : List PlacedEntry → List PlacedEntry → List PlacedEntry
 rows_due all before [] = []
 rows_due all before (x ∷ xs) = row_due all before x ∷ rows_due all (before ++ x ∷ []) xs
 
--- the numbers of these entries' classes are in the map
-abbrev pub AreNumbers : List PlacedEntry → BTreeMap ClassKey ℕ → Type 0
-AreNumbers before numbers = (x : EntryParts) (k : ClassKey) → IsClassKey x k → get name_cmp numbers k ≡ class_number x before
+-- an entry, without its place
+abbrev pub entry_of : PlacedEntry → EntryParts
+entry_of x = x.1
 
 -- the entries `before` are numbered, and `rest` are still to come
 pub record IsNumbering {A : Type 0} (all before rest : List PlacedEntry) (n : Numbering A) : Type 0 where
   pub parts : before ++ rest ≡ all
   pub texts : AreTexts (name_texts rest) n.texts.bytes.now n.texts.lens.now
-  pub numbers : AreNumbers before n.numbers
+  pub numbers : AreNumbers entry_of are_twins IsClassKey before n.numbers
   pub count : n.count ≡ length before
 
 -- ---- the keys of rows

@@ -1,6 +1,6 @@
 //! Copying the entries asked for into a keytab.
 
-ghost use Rattle.std.specs.Prelude.{◌≡◌, ◌∷◌, ◌++◌, List, Some, IfOk, IfErr};
+ghost use Rattle.std.specs.Prelude.{◌≡◌, ◌∷◌, List, Some, IfOk, IfErr};
 ghost use Rattle.krb_wire.specs.Reading.{principal_parts};
 ghost use Rattle.krb_keytab.specs.Find.{PlacedEntry};
 ghost use Rattle.krb_copy.specs.Copying.{Run, asked_as, copy_run, has_lines, renamed, run_after, run_over, step_of};

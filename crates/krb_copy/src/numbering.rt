@@ -1,15 +1,14 @@
 //! Entries of two lists, with the numbers of their classes of twins.
 
-ghost use Rattle.std.specs.Prelude.{◌≡◌, ◌∷◌, ◌++◌, [], List, map, IfOk, Some, length, unwrap_or};
-ghost use Rattle.std.specs.BTreeMap.{get, Updates};
+ghost use Rattle.std.specs.Prelude.{◌≡◌, ◌∷◌, ◌++◌, [], List, map, IfOk};
 ghost use Rattle.krb_keytab.specs.Find.{PlacedEntry};
-ghost use Rattle.krb_names.specs.Hash.{name_cmp};
 ghost use Rattle.krb_copy.specs.DiffRows.{IsNumbering, row_due, rows_due, shown};
 ghost use Rattle.krb_copy.specs.Texts.{AreTexts, name_texts};
 
 use crate::classes::{ClassKey, class_key};
 use crate::texts::TextsLeft;
 use krb_keytab::EntryView;
+use krb_names::number_of;
 use krb_wire::NoMemory;
 use std::alloc::Allocator;
 use std::collections::BTreeMap;
@@ -31,18 +30,6 @@ pub struct Numbering<'t, A: Allocator> {
     numbers: BTreeMap<ClassKey<'t>, u32, A>,
     // How many entries there are so far.
     count: u32,
-}
-
-// Returns the number of a class. A new one gets the number `next`.
-fn number_of<'t, A: Allocator + Clone>(
-    numbers: &mut BTreeMap<ClassKey<'t>, u32, A>,
-    key: ClassKey<'t>,
-    next: u32,
-) -> Result<u32, NoMemory>
-    ensures number { IfOk result (λ n. n ≡ unwrap_or (get name_cmp numbers.old key.entry) next) }
-    ensures kept { IfOk result (λ n. Updates name_cmp numbers.old numbers.new key.entry (Some n)) }
-{
-    Ok(*numbers.entry(key)?.or_insert(next))
 }
 
 impl<'t, A: Allocator + Copy> Numbering<'t, A> {

@@ -1,5 +1,5 @@
 -- The names that the proofs cite most, passed on from one place. Declares nothing.
-pub use Rattle.std.proofs.Common.{◌≡◌, ◌∙◌, sym, ap, subst, refl, arith, ℕ, ◌+◌, ◌<◌, ◌⊎◌, inl, inr, Bool, true, false, cond, List, [], ◌∷◌, ◌++◌, length, take, map, get_or, Result, Ok, Err, Option, Some, None, replicate, ◌-◌}
+pub use Rattle.std.proofs.Common.{◌≡◌, ◌∙◌, sym, ap, subst, refl, arith, rules, ℕ, ◌+◌, ◌<◌, ◌⊎◌, inl, inr, Bool, true, false, cond, List, [], ◌∷◌, ◌++◌, length, take, map, get_or, Result, Ok, Err, Option, Some, None, replicate, ◌-◌}
 pub use Rattle.std.specs.List.{fold, All, list_any, dedup, dedup_from}
 pub use Rattle.std.specs.Prelude.{◌||◌, ◌&&◌, ◌==◌}
 pub use Rattle.std.specs.Str.{bytes_eq}

@@ -1,5 +1,6 @@
 -- The definitions that the contracts of this crate use.
 pub mod Hash
+pub mod Numbers
 pub mod Set
 pub mod Marks
 pub mod Twins
