@@ -1,5 +1,5 @@
 -- A set of names in place of a list of texts.
-use Rattle.krb_audit.proofs.Cited.{◌≡◌, ◌∙◌, refl, sym, ap, ℕ, Bool, true, false, List, [], ◌∷◌, length, ◌||◌, Parts, true≢false, bytes_eq-Decides, name_text, HaveSameNames, is_among, AsksFor, has_text}
+use Rattle.krb_audit.proofs.Cited.{◌≡◌, ◌∙◌, refl, sym, ap, ℕ, Bool, true, List, [], ◌∷◌, length, ◌||◌, Parts, true≢false, bytes_eq-Decides, name_text, HaveSameNames, is_among, AsksFor, has_text}
 
 first_among : (name : List ℕ) (others : List (List ℕ)) → is_among (name ∷ others) name ≡ true
 first_among name others = ap (λ (b : Bool). b || is_among others name) ((bytes_eq-Decides name name).1 refl)

@@ -1,7 +1,7 @@
 -- The first entry that is alike, when one more entry is added.
-use Rattle.krb_audit.proofs.Cited.{◌≡◌, arith, ℕ, Bool, true, false, cond, List, [], ◌∷◌, ◌++◌, Option, Some, None, refl, ap, ◌∙◌, option_map, bytes_eq, PlacedEntry, first_number, find, on_equiv, and_equiv, nat_eq_equiv, find-append, is_alike, IsEquivalence, Alike, first_alike, AreFirsts, Key, same_key}
+use Rattle.krb_audit.proofs.Cited.{◌≡◌, arith, name_in, have_same_name, ℕ, Bool, true, false, cond, List, [], ◌∷◌, ◌++◌, Option, Some, None, refl, ap, ◌∙◌, option_map, bytes_eq, PlacedEntry, first_number, find, on_equiv, and_equiv, nat_eq_equiv, find-append, is_alike, IsEquivalence, Alike, first_alike, AreFirsts, Key, same_key}
 use Rattle.std.specs.Option.{option_or, unwrap_or}
-use Rattle.krb_audit.proofs.FirstNumbers.{number_test}
+use Rattle.krb_names.proofs.Numbered.{number_test}
 use Rattle.krb_names.proofs.SameNames.{same_equiv}
 
 alike_equiv : IsEquivalence is_alike
@@ -13,7 +13,7 @@ key_in i x = (record { 0 = i }, x.1.version, x.1.enctype)
 
 -- the keys of two entries are the same iff the entries are alike
 key_alike : (all : List PlacedEntry) (x y : PlacedEntry) (i j : ℕ) → first_number x.1.principal all ≡ Some i → first_number y.1.principal all ≡ Some j → same_key (key_in i x) (key_in j y) ≡ is_alike x y
-key_alike all x y i j one other = grind (arith, number_test x.1.principal y.1.principal all i j one other)
+key_alike all x y i j one other = grind (arith, number_test name_in have_same_name same_equiv x.1.principal y.1.principal all i j one other)
 
 find_same : (p q : PlacedEntry → Bool) → ((z : PlacedEntry) → p z ≡ q z) → (xs : List PlacedEntry) → find p xs ≡ find q xs
 find_same p q each [] = refl

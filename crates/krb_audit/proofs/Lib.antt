@@ -1,10 +1,9 @@
 pub mod Cited
 pub mod NameBytes
-pub mod FirstNumbers
 pub mod Numbering
 pub mod RowLemmas
 pub mod NewestStamps
-pub mod KvnoMarkLemmas
+pub mod StandingLemmas
 pub mod SelectedLemmas
 pub mod FirstsLemmas
 pub mod FindingsLemmas

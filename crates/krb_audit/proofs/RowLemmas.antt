@@ -1,5 +1,7 @@
 -- Rows, the entries that they are of, and lists with something at the number of each name.
-use Rattle.krb_audit.proofs.Cited.{◌≡◌, ℕ, Bool, cond, List, [], ◌∷◌, length, map, get_or, Option, Some, refl, ap, sym, ◌∙◌, arith, fold, subst, eqb-true, eq-eqb, All, PlacedEntry, Row, Stamp, AreRows, HasPlace, first_number, stamp_of, ◌==◌, set, drop, get_or-set_same, get_or-set_other, length-set, length-map, All-head, All-tail}
+use Rattle.krb_names.proofs.Numbered.{number_test}
+use Rattle.krb_names.proofs.SameNames.{same_equiv}
+use Rattle.krb_audit.proofs.Cited.{replicate, cases_lt, get_or-replicate, get_or_past, length-replicate, name_in, at_number, stepped, have_same_name, Parts, Some, ◌≡◌, ℕ, cond, List, [], ◌∷◌, length, map, get_or, Option, Some, refl, ap, ◌∙◌, arith, fold, eqb-true, eq-eqb, PlacedEntry, Row, Stamp, AreRows, HasPlace, first_number, stamp_of, drop, get_or-set_same, get_or-set_other}
 
 -- a row is that of an entry among all
 pub record IsRow (all : List PlacedEntry) (x : PlacedEntry) (r : Row) : Type 0 where
@@ -11,9 +13,6 @@ head_row all xs x r rs h = search arith
 
 other_rows : (all xs : List PlacedEntry) (x : PlacedEntry) (r : Row) (rs : List Row) → AreRows all (x ∷ xs) (r ∷ rs) → AreRows all xs rs
 other_rows all xs x r rs h = ap (λ (l : List (Option ℕ × Stamp)). drop 1 l) h
-
-pub row_count : (all xs : List PlacedEntry) (rows : List Row) → AreRows all xs rows → length rows ≡ length xs
-row_count all xs rows h = search (arith, length-map)
 
 -- what is read of rows can be read of the entries
 pub map_rows : {B : Type 0} (f : Row → B) (g : PlacedEntry → B) (all : List PlacedEntry) → ((r : Row) (x : PlacedEntry) → IsRow all x r → f r ≡ g x) → (xs : List PlacedEntry) (rows : List Row) → AreRows all xs rows → map f rows ≡ map g xs
@@ -30,17 +29,16 @@ fold_rows f g all each v (x ∷ xs) (r ∷ rs) h = grind (arith, each v r x (hea
 
 -- ---- lists with a value for each name
 
--- the list with a step at a row's number
-abbrev pub stepped : {V : Type 0} → (V → Row → V) → V → List V → Row → List V
-stepped step none t r = set t r.first (step (get_or t r.first none) r)
+pub get_or_none : {V : Type 0} (n i : ℕ) (none : V) → get_or (replicate n none) i none ≡ none
+get_or_none n i none = search (arith, cases_lt, get_or-replicate, get_or_past, length-replicate)
 
-at_step : {V : Type 0} (step : V → Row → V) (none : V) (i : ℕ) (r : Row) (t : List V) (b : Bool) → (r.first == i) ≡ b → HasPlace (length t) r → get_or (stepped step none t r) i none ≡ cond b (step (get_or t i none) r) (get_or t i none)
-at_step step none i r t b same lt = grind (arith, same, lt, eqb-true r.first i, eq-eqb r.first i, get_or-set_same t i (step (get_or t i none) r) none, get_or-set_other t r.first i (step (get_or t r.first none) r) none)
+-- the value at a number after the step of a row
+pub one_stepped : {V : Type 0} (step : V → Row → V) (none : V) (i : ℕ) (r : Row) (list : List V) → HasPlace (length list) r → get_or (stepped step none list r) i none ≡ at_number step i (get_or list i none) r
+one_stepped step none i r list lt = grind (arith, lt, eqb-true r.first i, eq-eqb r.first i, get_or-set_same list i (step (get_or list i none) r) none, get_or-set_other list r.first i (step (get_or list r.first none) r) none)
 
--- after some rows, a number has the steps of the rows that have it
-pub at_number : {V : Type 0} (step : V → Row → V) (none : V) (i : ℕ) (rows : List Row) (t : List V) → All (HasPlace (length t)) rows → get_or (fold (stepped step none) t rows) i none ≡ fold (λ v r. cond (r.first == i) (step v r) v) (get_or t i none) rows
-at_number step none i [] t places = refl
-at_number step none i (r ∷ rs) t places =
-    let kept = length-set t r.first (step (get_or t r.first none) r) in
-    at_number step none i rs (stepped step none t r) (subst (λ (n : ℕ). All (HasPlace n) rs) (sym kept) (All-tail (HasPlace (length t)) r rs places))
-    ∙ ap (λ w. fold (λ v q. cond (q.first == i) (step v q) v) w rs) (at_step step none i r t (r.first == i) refl (All-head (HasPlace (length t)) r rs places))
+-- a value for a name, after the steps of the rows of its entries
+pub at_name : {V : Type 0} (step : V → Row → V) (g : V → PlacedEntry → V) (none : V) (xs : List PlacedEntry) (rows : List Row) (list : List V) (p : Parts) (i : ℕ) → AreRows xs xs rows → ((v : V) (r : Row) (x : PlacedEntry) → IsRow xs x r → step v r ≡ g v x) → ((n : ℕ) → get_or list n none ≡ fold (at_number step n) none rows) → first_number p xs ≡ Some i
+    → get_or list i none ≡ fold (λ v x. cond (have_same_name p x.1.principal) (g v x) v) none xs
+at_name step g none xs rows list p i are each kept first =
+    kept i ∙ fold_rows (at_number step i) (λ v x. cond (have_same_name p x.1.principal) (g v x) v) xs
+    (λ v r x is. grind (arith, each v r x is, same_equiv.symm p x.1.principal, number_test name_in have_same_name same_equiv x.1.principal p xs r.first i is.first first)) none xs rows are

@@ -1,7 +1,6 @@
 -- What is known before an entry of a keytab: the first entry of each name, kvno and enctype, in a map, and more.
-use Rattle.std.specs.Prelude.{◌≡◌, List, ◌++◌, ℕ, find, Bool, ◌&&◌, ◌==◌, Option, None, Some, option_map}
+use Rattle.std.specs.Prelude.{◌≡◌, List, ◌++◌, ℕ, find, map, Bool, ◌&&◌, ◌==◌, Option, None, Some, option_map}
 use Rattle.std.specs.List.{list_any}
-use Rattle.std.specs.Vec.Iter.{into_iter_items}
 use Rattle.krb_names.specs.Marks.{AreMarked}
 use Rattle.krb_keytab.specs.Find.{PlacedEntry, placed_entries}
 use Rattle.krb_keytab.specs.Store.{KeytabState}
@@ -10,8 +9,8 @@ use Rattle.krb_audit.specs.declared.missing.Missing.{Missing}
 use Rattle.krb_audit.specs.CheckUp.{prints_as}
 use Rattle.krb_audit.specs.declared.selection.SelectedKvno.TheVariants.{Old}
 use Rattle.krb_audit.specs.Findings.{ends_mit, weak_among, is_alike}
-use Rattle.krb_audit.specs.Rows.{AreRows, first_number}
-use Rattle.krb_audit.specs.KvnoMarks.{AreMarks}
+use Rattle.krb_audit.specs.Rows.{first_number}
+use Rattle.krb_audit.specs.Standings.{standing}
 use Rattle.std.specs.BTreeMap.{get}
 use Rattle.std.specs.declared.cmp.Ordering.{Ordering}
 use Rattle.std.specs.declared.cmp.Reverse.{Reverse}
@@ -45,8 +44,7 @@ IsMissing wanted before m = AreMarked (λ text. list_any (prints_as text) before
 -- what is known of a keytab between the entries `before` and the entries `rest`
 pub record IsBefore {A : Type 0} (k : KeytabState) (wanted : List (List ℕ)) (before rest : List PlacedEntry) (b : Before A) : Type 0 where
   pub all : placed_entries k ≡ before ++ rest
-  pub rows : AreRows (placed_entries k) rest (into_iter_items b.rows)
-  pub are_old : AreMarks (Old None) 0 (placed_entries k) rest (into_iter_items b.are_old)
+  pub standings : b.standings ≡ map (standing (Old None) 0 (placed_entries k)) rest
   pub firsts : AreFirsts (placed_entries k) before (looked b.firsts)
   pub missing : IsMissing wanted before b.missing
   pub has_ended : b.has_ended ≡ list_any (λ x. ends_mit x.1) before

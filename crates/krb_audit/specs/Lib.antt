@@ -8,5 +8,7 @@ pub mod Laws
 -- For private contracts alone.
 pub mod Names
 pub mod Rows
-pub mod KvnoMarks
+pub mod ByName
+pub mod Standings
+pub mod Versions
 pub mod Before

@@ -1,15 +1,11 @@
 -- The entries of a keytab with their names numbered.
-use Rattle.std.specs.Prelude.{◌≡◌, ◌<◌, ℕ, List, [], ◌++◌, length, map, Option, Some, option_map}
-use Rattle.std.specs.BTreeMap.{get_by}
-use Rattle.std.specs.Cmp.Lexicographic.{slice_cmp}
+use Rattle.std.specs.Prelude.{◌≡◌, ℕ, List, [], ◌++◌, map, Option, Some, option_map}
 use Rattle.std.specs.List.{position_from}
-use Rattle.std.specs.Option.{option_or}
-use Rattle.std.specs.Ordering.{nat_cmp, ordering_then}
-use Rattle.std.specs.declared.cmp.Ordering.{Ordering}
 use Rattle.krb_wire.specs.Spelling.{Parts, FitsKt}
 use Rattle.krb_wire.specs.Names.{have_same_name}
 use Rattle.krb_wire.specs.declared.format.KtFormat.{KtFormat}
 use Rattle.krb_names.specs.Hash.{HashedName, hash_of}
+use Rattle.krb_names.specs.Numbers.{AreNumbers}
 use Rattle.krb_keytab.specs.Entry.{EntryParts}
 use Rattle.krb_keytab.specs.Find.{PlacedEntry}
 use Rattle.krb_audit.specs.declared.rows.Names.{Names}
@@ -34,13 +30,9 @@ newer_stamp newest later = option_map stamp_of (newer (option_map stamped newest
 abbrev pub newest_stamp : Parts → List PlacedEntry → Option Stamp
 newest_stamp name xs = option_map stamp_of (newest name xs)
 
--- the number of the first entry of a name among entries, if the first has number n
-abbrev pub first_from : ℕ → Parts → List PlacedEntry → Option ℕ
-first_from n name xs = position_from (λ x. have_same_name name x.1.principal) n xs
-
--- the number of the first entry of a name among entries
+-- the number of the first entry of a name among entries, which are numbered from 0
 abbrev pub first_number : Parts → List PlacedEntry → Option ℕ
-first_number name xs = first_from 0 name xs
+first_number name xs = position_from (λ x. have_same_name name x.1.principal) 0 xs
 
 -- what a row has
 abbrev pub shown : Row → Option ℕ × Stamp
@@ -54,17 +46,21 @@ row_in all x = (first_number x.1.principal all, stamp_of x.1)
 abbrev pub AreRows : List PlacedEntry → List PlacedEntry → List Row → Type 0
 AreRows all xs rows = map shown rows ≡ map (row_in all) xs
 
--- a list of that length has a place at the number of a row
-abbrev pub HasPlace : ℕ → Row → Type 0
-HasPlace len r = r.first < len
-
 -- ---- in a map
 
--- how a name's bytes compare to those in a map, with their hashes
-abbrev pub to_name : List ℕ → HashedName → Ordering
-to_name name y = ordering_then (nat_cmp (hash_of name) y.0) (slice_cmp nat_cmp name y.1.now)
+-- the bytes that encode a name without its type, with their hash; the name fits the format
+pub record IsNameKey (f : KtFormat) (p : Parts) (k : HashedName) : Type 0 where
+  pub fits : FitsKt f p
+  pub hash : k.0 ≡ hash_of k.1.now
+  pub bytes : k.1.now ≡ kt_name f p
 
--- the entries before `rest` have rows, and their names are numbered: a name's number is the one in the map, or else its first one in `rest`
+-- the name of an entry
+abbrev pub name_in : PlacedEntry → Parts
+name_in x = x.1.principal
+
+-- the entries before `rest` have rows, and their names are numbered
 pub record AreNumbered {A : Type 0} (f : KtFormat) (all rest : List PlacedEntry) (names : Names A) : Type 0 where
-  pub numbers : (p : Parts) → FitsKt f p → option_or (get_by (to_name (kt_name f p)) names.numbers) (first_from (length names.rows.items) p rest) ≡ first_number p all
-  pub rows : map shown names.rows.items ++ map (row_in all) rest ≡ map (row_in all) all
+  pub before : List PlacedEntry
+  pub parts : before ++ rest ≡ all
+  pub numbers : AreNumbers name_in have_same_name (IsNameKey f) before names.numbers
+  pub rows : map shown names.rows.items ≡ map (row_in all) before

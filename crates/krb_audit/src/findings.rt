@@ -1,24 +1,21 @@
 //! What is found about the entries of a keytab.
 
-ghost use Rattle.std.specs.Prelude.{◌≡◌, ◌∷◌, ◌++◌, ◌&&◌, ◌||◌, [], List, ℕ, length, map, not, None, option_map, IfOk};
+ghost use Rattle.std.specs.Prelude.{◌≡◌, ◌∷◌, ◌++◌, ◌&&◌, [], List, ℕ, length, map, not, None, option_map, IfOk};
 ghost use Rattle.std.specs.Vec.{vec_items};
-ghost use Rattle.krb_keytab.specs.Entry.{EntryParts};
 ghost use Rattle.krb_keytab.specs.Find.{PlacedEntry, placed_entries};
 ghost use Rattle.krb_keytab.specs.Store.{KeytabState};
 ghost use Rattle.krb_audit.specs.Before.{IsBefore, IsMissing};
 ghost use Rattle.krb_audit.specs.CheckUp.{missing_among};
 ghost use Rattle.krb_audit.specs.Findings.{clashes, has_odd_size, is_aged, marks_of, repeats, reported, weak_among};
 ghost use Rattle.krb_audit.specs.declared.selection.SelectedKvno.TheVariants.{Old};
-ghost use Rattle.krb_audit.specs.KvnoMarks.{AreMarks};
-ghost use Rattle.krb_audit.specs.Rows.{AreRows};
+ghost use Rattle.krb_audit.specs.Standings.{standing};
 
 use crate::firsts::{Alike, Firsts};
-use crate::kvno_marks::{marks_of, next_mark};
 use crate::marks::Marks;
 use crate::missing::Missing;
 use crate::mit::ends_mit;
-use crate::rows::{Row, next_number, rows_of};
 use crate::selection::SelectedKvno;
+use crate::standings::Standings;
 use crate::weak_etypes::{add_weak, no_weak};
 use krb_findings::{Finding, FindingSet, WeakEtypes};
 use krb_keytab::{EntryView, Keytab};
@@ -26,14 +23,12 @@ use krb_text::{is_weak, key_size};
 use krb_wire::NoMemory;
 use std::alloc::Allocator;
 use std::cmp::Reverse;
-use std::vec::IntoIter;
 
 /// What is known before an entry is checked.
 #[derive(Drop)]
 struct Before<'a, A: Allocator> {
-    // The rows of the entries that are still to come, and which of them are old.
-    rows: IntoIter<Row, A>,
-    are_old: IntoIter<bool, A>,
+    // Old entries are selected.
+    standings: Standings<A>,
     firsts: Firsts<'a, A>,
     missing: Missing<'a, A>,
     /// True if MIT's programs stop before one of the entries so far.
@@ -84,19 +79,13 @@ fn place_of(alike: Option<Alike>) -> Option<u32>
 
 impl<'a, A: Allocator + Copy> Before<'a, A> {
     // Returns what is known before the first entry of a keytab.
-    fn first(
-        alloc: A,
-        rows: Vec<Row, A>,
-        are_old: Vec<bool, A>,
-        missing: Missing<'a, A>,
-    ) -> Before<'a, A>
-        ensures { (k : KeytabState) (wanted : List (List ℕ)) → AreRows (placed_entries k) (placed_entries k) rows.items
-            → AreMarks (Old None) 0 (placed_entries k) (placed_entries k) are_old.items → IsMissing wanted [] missing.entry
+    fn first(alloc: A, standings: Standings<A>, missing: Missing<'a, A>) -> Before<'a, A>
+        ensures { (k : KeytabState) (wanted : List (List ℕ)) → standings ≡ map (standing (Old None) 0 (placed_entries k)) (placed_entries k)
+            → IsMissing wanted [] missing.entry
             → IsBefore k wanted [] (placed_entries k) result }
     {
         Before {
-            rows: rows.into_iter(),
-            are_old: are_old.into_iter(),
+            standings,
             firsts: Firsts::new(alloc),
             missing,
             has_ended: false,
@@ -120,8 +109,7 @@ impl<'a, A: Allocator + Copy> Before<'a, A> {
         let etype = entry.enctype();
         let ends = ends_mit(entry);
         let hidden = ends & !self.has_ended;
-        let first = next_number(&mut self.rows);
-        let old = next_mark(&mut self.are_old);
+        let (first, old) = self.standings.take();
         self.missing.mark_next(entry)?;
         let key = (Reverse(first), kvno, etype);
         let alike = self.firsts.consider(key, place, entry.key())?;
@@ -169,13 +157,12 @@ pub(crate) fn check_entries<'k, A: Allocator + Copy, B: Allocator, C: Allocator>
     ensures weak_etypes { IfOk result (λ pass. pass.weak_etypes ≡ weak_among (placed_entries keytab.now.state)) }
     ensures count { IfOk result (λ pass. pass.count ≡ length (placed_entries keytab.now.state)) }
 {
-    let rows = rows_of(alloc, keytab)?;
-    let are_old = marks_of(alloc, &rows, SelectedKvno::Old(None), 0)?;
+    let standings = Standings::of(alloc, keytab, SelectedKvno::Old(None), 0)?;
     // Bounds the number of entries, so that it fits.
     let _few = keytab.cell_count();
-    let count = rows.len() as u32;
+    let count = standings.len() as u32;
     let names = Missing::new(alloc, wanted)?;
-    let mut before = Before::first(alloc, rows, are_old, names);
+    let mut before = Before::first(alloc, standings, names);
     let mut entries = Vec::new(alloc);
     'entries: for (place, entry) in keytab.entries() {
         let marks = before.marks(aged_by, place, &entry)?;

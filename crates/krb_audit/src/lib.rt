@@ -2,12 +2,12 @@
 //! and selections of a cache's tickets.
 #![tactic(auto)]
 
+mod by_name;
 mod check;
 mod counts;
 mod criteria;
 mod findings;
 mod firsts;
-mod kvno_marks;
 mod laws;
 mod marks;
 mod missing;
@@ -18,7 +18,9 @@ mod newest;
 mod report;
 mod rows;
 mod selection;
+mod standings;
 mod tickets;
+mod versions;
 mod weak_etypes;
 mod young;
 
@@ -26,7 +28,6 @@ pub use check::{CheckUp, check_up};
 pub use counts::Counts;
 pub use criteria::{is_of_gssproxy, is_service};
 pub use findings::Marked;
-pub use kvno_marks::{marks_of, next_mark};
 pub use laws::{each_name_keeps_an_entry, hints_name_each_weak_etype};
 pub use marks::Marks;
 pub use mit::hides_added;
@@ -34,6 +35,6 @@ pub use mode::{append_mode_digits, is_open_file};
 pub use name_filter::NameFilter;
 pub use newest::Stamp;
 pub use report::append_report;
-pub use rows::{Row, next_number, rows_of};
 pub use selection::{Selected, SelectedKvno, Selection, select, selected_entries};
+pub use standings::Standings;
 pub use tickets::{SelectedTickets, TicketCriteria, select_tickets};

@@ -1,12 +1,13 @@
 //! The newest entry of each name, and which of two entries of a name is the newer one.
 
-ghost use Rattle.std.specs.Prelude.{◌≡◌, List, IfOk, None, get_or, slice_set};
+ghost use Rattle.std.specs.Prelude.{◌≡◌, List, IfOk};
 ghost use Rattle.krb_keytab.specs.Find.{PlacedEntry};
 ghost use Rattle.krb_audit.specs.Rows.{AreRows, newer_stamp, stamp_of, stamped};
-ghost use Rattle.krb_audit.specs.KvnoMarks.{AreNewest, is_old_row};
+ghost use Rattle.krb_audit.specs.Standings.{AreNewest, is_old_row};
 ghost use Rattle.krb_audit.specs.Newest.{has_wrapped, is_newer};
 
-use crate::rows::{Row, numbered_len};
+use crate::by_name::{Kept, by_name};
+use crate::rows::Row;
 use krb_keytab::EntryView;
 use krb_wire::NoMemory;
 use std::alloc::Allocator;
@@ -60,32 +61,31 @@ fn newer(newest: Option<Stamp>, later: Stamp) -> Option<Stamp>
     }
 }
 
-// Renews the newest stamp of a row's name.
-#[tactic(auto, using(std::proofs::lemmas::List::set_past))]
-fn renew<A: Allocator>(newest: &mut Vec<Option<Stamp>, A>, row: Row)
-    ensures { newest.new.items ≡ slice_set newest.old.items row.first
-        (newer_stamp (get_or newest.old.items row.first None) row.stamp) }
-{
-    let first = row.first as usize;
-    if first < newest.len() {
-        newest[first] = newer(newest[first], row.stamp);
+/// Keeps the stamp of each name's newest entry.
+#[derive(Clone, Copy)]
+pub struct NewestStamp;
+
+impl Kept for NewestStamp {
+    ghost use Rattle.krb_audit.specs.Rows.{newer_stamp};
+
+    type Value = Option<Stamp>;
+
+    ghost step = { λ _ newest r. newer_stamp newest r.stamp };
+
+    fn step(&self, newest: Option<Stamp>, row: Row) -> Option<Stamp> {
+        newer(newest, row.stamp)
     }
 }
 
 /// Returns a list that has, at the number of the first entry of each name, the stamp of its newest entry.
+#[tactic(auto, using(crate::proofs::NewestStamps::are_newest))]
 pub fn newest_stamps<A: Allocator + Copy>(
     alloc: A,
     rows: &[Row],
 ) -> Result<Vec<Option<Stamp>, A>, NoMemory>
     ensures { (xs : List PlacedEntry) → AreRows xs xs rows.now → IfOk result (λ newest. AreNewest xs newest.items) }
 {
-    let len = numbered_len(rows);
-    let mut newest = Vec::new(alloc);
-    newest.resize(len, None)?;
-    'rows: for row in rows {
-        renew(&mut newest, *row);
-    }
-    Ok(newest)
+    by_name(alloc, rows, None, &NewestStamp)
 }
 
 /// Returns whether the entry of a row is old.

@@ -1,24 +1,19 @@
 //! The entries of a keytab with their names numbered.
 
-ghost use Rattle.std.specs.Prelude.{◌≡◌, ◌∷◌, List, IfOk, IfSome, OnOk, Some, unwrap_or};
-ghost use Rattle.std.specs.List.{All};
-ghost use Rattle.std.specs.Vec.Iter.{into_iter_items};
-ghost use Rattle.std.specs.BTreeMap.{get, Updates};
+ghost use Rattle.std.specs.Prelude.{◌≡◌, ◌∷◌, List, IfOk, IfSome, OnOk, Some};
 ghost use Rattle.krb_wire.specs.Reading.{Gives};
 ghost use Rattle.krb_wire.specs.Spelling.{FitsKt};
 ghost use Rattle.krb_keytab.specs.Entry.{entry_at};
 ghost use Rattle.krb_keytab.specs.Find.{PlacedEntry, placed_entries};
-ghost use Rattle.krb_names.specs.Hash.{name_cmp};
 ghost use Rattle.krb_audit.specs.Names.{kt_name, type_len};
-ghost use Rattle.krb_audit.specs.Rows.{AreNumbered, AreRows, HasPlace, first_number};
+ghost use Rattle.krb_audit.specs.Rows.{AreNumbered, AreRows};
 
 use crate::newest::Stamp;
 use krb_keytab::{EntryView, Keytab, KtCell, read_entry};
-use krb_names::hash_of;
+use krb_names::{hash_of, number_of};
 use krb_wire::{KtFormat, NoMemory, split_kt_principal};
 use std::alloc::Allocator;
 use std::collections::BTreeMap;
-use std::vec::IntoIter;
 
 /// An entry: the number of the first entry of its name, and its stamp. Entries are numbered from 0 in file order.
 #[derive(Clone, Copy, Debug)]
@@ -45,19 +40,6 @@ fn named_entry(format: KtFormat, bytes: &[u8]) -> Option<(&[u8], EntryView<'_>)>
     let (_, rest) = split_kt_principal(format, bytes)?;
     let end = bytes.len() - rest.len() - name_type_len(format);
     Some((bytes.split_at(end).0, entry))
-}
-
-// Returns the number of a name. A new name gets the number `next`.
-fn number_of<'a, A: Allocator + Clone>(
-    numbers: &mut BTreeMap<(u64, &'a [u8]), u32, A>,
-    name: (u64, &'a [u8]),
-    next: u32,
-) -> Result<u32, NoMemory>
-    ensures number { IfOk result (λ n. n ≡ unwrap_or (get name_cmp numbers.old name.entry) next) }
-    ensures kept { IfOk result (λ n. Updates name_cmp numbers.old numbers.new
-        name.entry (Some n)) }
-{
-    Ok(*numbers.entry(name)?.or_insert(next))
 }
 
 // The names of the entries so far, each with the number of its first entry, and the rows of the entries.
@@ -106,23 +88,4 @@ pub fn rows_of<A: Allocator + Copy, B: Allocator>(
         }
     }
     Ok(names.rows)
-}
-
-/// Returns the length of a list that has a place at the number of each row.
-pub fn numbered_len(rows: &[Row]) -> usize
-    ensures { All (HasPlace result) rows.now }
-{
-    let mut len = 0;
-    'rows: for row in rows {
-        len = len.max(row.first as usize + 1);
-    }
-    len
-}
-
-/// Returns the number of the name of the next row.
-pub fn next_number<A: Allocator>(rows: &mut IntoIter<Row, A>) -> u32
-    ensures { (all rest : List PlacedEntry) (x : PlacedEntry) → AreRows all (x ∷ rest) (into_iter_items rows.old)
-        → (first_number x.1.principal all ≡ Some result) × AreRows all rest (into_iter_items rows.new) }
-{
-    rows.next().map_or(0, |row| row.first)
 }

@@ -6,8 +6,8 @@ ghost use Rattle.krb_keytab.specs.Find.{PlacedEntry, placed_entries};
 ghost use Rattle.krb_audit.specs.Selection.{Selects, is_named, needs_clock, selected_in};
 
 use crate::criteria::is_named_if_it_matters;
-use crate::kvno_marks::SelectedVersions;
 use crate::name_filter::NameFilter;
+use crate::versions::SelectedVersions;
 use krb_keytab::{EntryView, Keytab};
 use krb_keytab_text::append_placed;
 use krb_text::append;

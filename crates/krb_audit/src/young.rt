@@ -1,14 +1,15 @@
 //! The names whose newest kvno has a young entry.
 
-ghost use Rattle.std.specs.Prelude.{◌≡◌, ◌||◌, List, IfOk, Some, false, get_or, slice_set};
+ghost use Rattle.std.specs.Prelude.{◌≡◌, List, IfOk, Some};
 ghost use Rattle.krb_keytab.specs.Find.{PlacedEntry};
 ghost use Rattle.krb_audit.specs.declared.selection.SelectedKvno.TheVariants.{Old};
 ghost use Rattle.krb_audit.specs.Rows.{AreRows, stamped};
 ghost use Rattle.krb_audit.specs.Selection.{is_young};
-ghost use Rattle.krb_audit.specs.KvnoMarks.{AreNewest, AreYoung, is_young_row};
+ghost use Rattle.krb_audit.specs.Standings.{AreNewest, AreYoung};
 
+use crate::by_name::{Kept, by_name};
 use crate::newest::{Stamp, is_old};
-use crate::rows::{Row, numbered_len};
+use crate::rows::Row;
 use crate::selection::SelectedKvno;
 use krb_wire::NoMemory;
 use std::alloc::Allocator;
@@ -21,21 +22,24 @@ fn is_young(now: u32, seconds: u32, stamp: Stamp) -> bool
     timestamp == 0 || u64::from(now) < u64::from(timestamp) + u64::from(seconds)
 }
 
-// Returns whether the entry of a row is of its name's newest kvno, and may be less than `seconds` old.
-fn is_young_newest(now: u32, seconds: u32, newest: &[Option<Stamp>], row: Row) -> bool
-    ensures { result ≡ is_young_row now seconds newest.now row }
-{
-    is_young(now, seconds, row.stamp) && !is_old(newest, row)
+// Keeps of each name whether an entry of its newest kvno may be less than `seconds` old.
+#[derive(Clone, Copy)]
+struct Young<'n> {
+    newest: &'n [Option<Stamp>],
+    now: u32,
+    seconds: u32,
 }
 
-// Marks the name of a row if it holds.
-#[tactic(auto, using(std::proofs::lemmas::List::set_past))]
-fn mark_if<A: Allocator>(holds: bool, young: &mut Vec<bool, A>, row: Row)
-    ensures { young.new.items ≡ slice_set young.old.items row.first (get_or young.old.items row.first false || holds) }
-{
-    let first = row.first as usize;
-    if first < young.len() {
-        young[first] = young[first] || holds;
+impl Kept for Young<'_> {
+    ghost use Rattle.std.specs.Prelude.{◌||◌};
+    ghost use Rattle.krb_audit.specs.Standings.{is_young_row};
+
+    type Value = bool;
+
+    ghost step = { λ y has_young r. has_young || is_young_row y.now y.seconds y.newest.now r };
+
+    fn step(&self, has_young: bool, row: Row) -> bool {
+        has_young || is_young(self.now, self.seconds, row.stamp) && !is_old(self.newest, row)
     }
 }
 
@@ -50,14 +54,12 @@ fn young_for<A: Allocator + Copy>(
     ensures { (xs : List PlacedEntry) → AreRows xs xs rows.now → AreNewest xs newest.now
         → IfOk result (λ young. AreYoung (Old (Some seconds)) now xs young.items) }
 {
-    let len = numbered_len(rows);
-    let mut young = Vec::new(alloc);
-    young.resize(len, false)?;
-    'rows: for row in rows {
-        let is_young = is_young_newest(now, seconds, newest, *row);
-        mark_if(is_young, &mut young, *row);
-    }
-    Ok(young)
+    let young = Young {
+        newest,
+        now,
+        seconds,
+    };
+    Ok(by_name(alloc, rows, false, &young)?)
 }
 
 /// Returns that list if `kvno` asks for it.

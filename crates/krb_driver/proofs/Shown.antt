@@ -1,14 +1,12 @@
 -- What is shown of a run, and a text on its way to the error output.
-use Rattle.krb_driver.proofs.Cited.{◌≡◌, ℕ, List, [], ◌++◌, refl, sym, subst, inl, ◌∙◌, arith, true≢false, Watch, ShowsEnd, ready_end, Page, Run, Shows, Writes, ReportsEnd, ends_by, ErrorWatch, ◌+◌, add-one, ◌<◌, ◌∷◌, Option, ap, append_assoc, append-nil, length, get_or, take, map-id, flat_map, range_with_len, false≢true, AppendsPrefix, Adds, Sends, Underway, Well, aftermath_text, words_if, Ending, aftermath_status, end_status, ending_status}
-use Rattle.std.specs.Prelude.{max, Bool, true, false, None, IsTrue, Result, Ok, Err, OnOk, OnErr, is_err, IsFalse}
+use Rattle.krb_driver.proofs.Cited.{◌≡◌, ℕ, List, [], ◌++◌, refl, sym, subst, inl, ◌∙◌, arith, true≢false, Watch, ShowsEnd, ready_end, Page, Run, Shows, Writes, ends_by, ◌+◌, add-one, ◌<◌, ◌∷◌, Option, ap, append_assoc, append-nil, length, get_or, take, map-id, flat_map, range_with_len, false≢true, AppendsPrefix, Adds, Sends, Underway, Ending, aftermath_status, end_status, ending_status}
+use Rattle.std.specs.Prelude.{max, true, false, None, IsTrue, Result, Ok, Err, OnOk, OnErr, is_err, IsFalse}
 use Rattle.krb_files.proofs.Prefixes.{AppendsPrefix-none, Appends-nil, Appends-trans, AppendsPrefix-all, AppendsPrefix-after}
 use Rattle.krb_driver.specs.declared.command.FileError.{FileError}
 use Rattle.krb_driver.specs.declared.command.Ready.{Ready}
 use Rattle.krb_driver.specs.declared.command.Ready.TheVariants as ready
 use Rattle.krb_driver.specs.declared.error.RunError.TheVariants.{OutputNotWritten}
 use Rattle.krb_files.specs.declared.aftermath.Aftermath.{Aftermath}
-use Rattle.krb_driver.specs.declared.reporting.details.Details.{Details}
-use Rattle.krb_driver.specs.EndingWords.{ending_words}
 use Rattle.std.proofs.Math.Seq.{take-suc}
 use Rattle.std.proofs.lemmas.Grind.{flat_map-append}
 use Rattle.std.proofs.lemmas.List.FromFn.{map-range_with_len_more}
@@ -27,20 +25,6 @@ module _ (out : Watch) (failed : IsTrue out.failed) where
 -- nothing was to be written
 pub Writes-nothing : (w : Watch) → Writes w w []
 Writes-nothing w = record { prefix = AppendsPrefix-none w.contents []; whole = λ _. Appends-nil w.contents }
-
--- nor was there anything to explain
-words_if-nothing : (explains : Bool) → words_if explains [] ≡ []
-words_if-nothing true = refl
-words_if-nothing false = refl
-
--- nothing was to be reported of a run that went well, and saved nothing
-pub ReportsEnd-nothing : (file : List ℕ) (line : Option ℕ) (details : Details) (err : ErrorWatch) → details.aftermath ≡ None → ReportsEnd file line details (Ok Well) err err
-unfolding ending_words
-ReportsEnd-nothing file line details err none = record {
-  writes = subst (λ (words : List ℕ). Writes err.to err.to (words ++ aftermath_text err.explains file line details.aftermath)) (sym (words_if-nothing err.explains))
-      (subst (λ (a : Option Aftermath). Writes err.to err.to (aftermath_text err.explains file line a)) (sym none) (Writes-nothing err.to));
-  still = refl;
-}
 
 -- the exit status of a run whose save left nothing behind to report
 pub end_status-none : (ending : Ending) (aftermath : Option Aftermath) → aftermath ≡ None → ending_status ending ≡ end_status ending aftermath

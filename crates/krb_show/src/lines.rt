@@ -7,14 +7,13 @@ ghost use Rattle.krb_keytab.specs.Find.{PlacedEntry, placed_entries};
 ghost use Rattle.krb_show.specs.KeytabView.{grown, lines_of, put_entry};
 ghost use Rattle.krb_show.specs.Lines.{AreSoFar};
 
-use krb_audit::{Row, SelectedKvno, marks_of, next_mark, next_number, rows_of};
+use krb_audit::{SelectedKvno, Standings};
 use krb_keytab::{EntryView, Keytab, KtCell, read_entry};
 use krb_wire::{KtFormat, NoMemory, write_name};
 use std::alloc::Allocator;
 use std::cmp::Reverse;
 use std::collections::BTreeMap;
 use std::marker::Model;
-use std::vec::IntoIter;
 
 /// Where a line is in the table: the number of its name's first entry, whether it is old, and its kvno, the greatest
 /// first.
@@ -102,14 +101,11 @@ pub fn one_more(count: usize) -> Result<usize, NoMemory>
     count.checked_add(1).ok_or(NoMemory)
 }
 
-// The lines of the entries so far, how many these are, and what is known of those to come: the numbers of their names, and
-// whether they are old.
+// The lines of the entries so far, and the standings of those to come: old ones are selected.
 #[derive(Drop)]
 struct SoFar<'a, A: Allocator> {
-    rows: IntoIter<Row, A>,
-    are_old: IntoIter<bool, A>,
+    standings: Standings<A>,
     lines: Lines<'a, A>,
-    count: usize,
 }
 
 impl<'a, A: Allocator + Copy> SoFar<'a, A> {
@@ -117,13 +113,9 @@ impl<'a, A: Allocator + Copy> SoFar<'a, A> {
     fn of<B: Allocator>(alloc: A, keytab: &Keytab<B>) -> Result<SoFar<'a, A>, NoMemory>
         ensures { IfOk result (AreSoFar (placed_entries keytab.now.state) (placed_entries keytab.now.state)) }
     {
-        let rows = rows_of(alloc, keytab)?;
-        let are_old = marks_of(alloc, &rows, SelectedKvno::Old(None), 0)?;
         Ok(SoFar {
-            rows: rows.into_iter(),
-            are_old: are_old.into_iter(),
+            standings: Standings::of(alloc, keytab, SelectedKvno::Old(None), 0)?,
             lines: BTreeMap::new(alloc),
-            count: 0,
         })
     }
 
@@ -135,10 +127,8 @@ impl<'a, A: Allocator + Copy> SoFar<'a, A> {
         let Some(entry) = read_entry(format, record) else {
             return Ok(());
         };
-        self.count = one_more(self.count)?;
-        let number = next_number(&mut self.rows);
-        let is_old = next_mark(&mut self.are_old);
-        let key = (number, is_old, Reverse(entry.kvno()));
+        let (first, is_old) = self.standings.take();
+        let key = (first, is_old, Reverse(entry.kvno()));
         put_entry(
             key,
             Line::of(alloc, format, record),
@@ -157,11 +147,12 @@ pub fn lines_of<'a, A: Allocator + Copy, B: Allocator>(
     ensures count { IfOk result (λ made. made.1 ≡ length (placed_entries keytab.now.state)) }
 {
     let mut so_far = SoFar::of(alloc, keytab)?;
+    let count = so_far.standings.len();
     let format = keytab.format();
     for (_place, cell) in keytab.cells() {
         if let KtCell::Live(record) = cell {
             so_far.add(alloc, format, record)?;
         }
     }
-    Ok((so_far.lines, so_far.count))
+    Ok((so_far.lines, count))
 }

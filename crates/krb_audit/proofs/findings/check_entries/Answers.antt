@@ -1,28 +1,25 @@
-use Rattle.krb_audit.proofs.Cited.{List, [], ◌++◌, true, false, None, refl, ap, sym, subst, arith, ◌∙◌, AreMarks, Old as OldKvno, PlacedEntry, placed_entries, map, vec_items, rules, Marked, reported}
+use Rattle.krb_audit.proofs.Cited.{List, [], ◌++◌, true, false, refl, ap, sym, subst, arith, ◌∙◌, PlacedEntry, placed_entries, map, vec_items, length-map, Marked, reported}
 use Rattle.krb_audit.proofs.FindingsLemmas.{IsCheckedUpTo, all_before, entries_few, one_checked}
-use Rattle.krb_audit.proofs.RowLemmas.{row_count}
 use Rattle.krb_audit.proofs.findings.check_entries.Goals as goal
 
 pub overflow_cast-count : goal.overflow_cast-count
-overflow_cast-count g c = search (arith, row_count, entries_few)
+overflow_cast-count g c = search (arith, length-map, entries_few)
 
 pub returns-clause-count : goal.returns-clause-count
-returns-clause-count g c = search (arith, row_count)
+returns-clause-count g c = search (arith, length-map)
 
 pub entries-init : goal.entries-init
 entries-init g c =
     let k = c.args.keytab.now.state in
-    let all = placed_entries k in
-    let marks : AreMarks (OldKvno None) 0 all all c.in_ok-are_old.are_old.items = search rules in
-    let known = c.first-before.ensures k (map vec_items c.args.wanted.now) c.in_ok-rows.ensures marks c.in_ok-names.ensures in
+    let known = c.first-before.ensures k (map vec_items c.args.wanted.now) c.in_ok-standings.ensures c.in_ok-names.ensures in
     subst (λ (xs : List PlacedEntry). IsCheckedUpTo c.args.aged_by k (map vec_items c.args.wanted.now) xs c.first-before.result c.new-entries.result.items) (sym (c.into_iter-place-iterator.ensures.into_iter_gives ∙ c.entries-place-items.ensures)) (record {
       before = [];
       known = known;
       entries_are = ap (λ (es : List Marked). es ++ reported c.args.aged_by k) c.new-entries.ensures.items;
     })
 
-pub entries-preserved-in-Continue-branch-5 : goal.entries-preserved-in-Continue-branch-5
-entries-preserved-in-Continue-branch-5 g c =
+pub entries-preserved-in-Continue-branch-4 : goal.entries-preserved-in-Continue-branch-4
+entries-preserved-in-Continue-branch-4 g c =
     let k = c.args.keytab.now.state in
     let wanted = map vec_items c.args.wanted.now in
     let was = subst (λ (xs : List PlacedEntry). IsCheckedUpTo c.args.aged_by k wanted xs c.entries.before c.entries.entries.items) c.in-Some.ensures.steps c.entries.invariant in

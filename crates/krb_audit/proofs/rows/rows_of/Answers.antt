@@ -1,4 +1,4 @@
-use Rattle.krb_audit.proofs.ForAnswers.{List, ap, sym, subst, ◌∙◌, KtFormat, PlacedEntry, placed_entries, AreNumbered, is_some_has, CellsFrom, BeginsWith, cell_of, entries_in, entry_at, KtCell, entries_of_cells, listed_live, none_numbered}
+use Rattle.krb_audit.proofs.ForAnswers.{rules, List, ap, sym, subst, ◌∙◌, KtFormat, PlacedEntry, placed_entries, AreNumbered, is_some_has, CellsFrom, BeginsWith, cell_of, entries_in, entry_at, KtCell, entries_of_cells, listed_live, all_numbered, none_numbered}
 use Rattle.krb_audit.proofs.rows.rows_of.Goals as goal
 
 pub loop-place-init : goal.loop-place-init
@@ -26,3 +26,6 @@ loop-place-preserved-in_ok-consider g c =
       numbered = c.in_ok-consider.ensures all (entries_in new.format new.place new.contents.cells) (at, e.0) read next;
       format = steps.format ∙ h.format;
     }
+
+pub returns : goal.returns
+returns g c = search (rules, all_numbered)

@@ -1,4 +1,4 @@
-use Rattle.krb_audit.proofs.ForAnswers.{◌≡◌, List, ℕ, cond, Option, None, Some, ap, sym, ◌∙◌, ◌∷◌, [], append_assoc, ◌&&◌, ◌||◌, not, list_any, option_map, PlacedEntry, placed_entries, Old, ends_mit, ap₂, Key, looked, same_key, clashes, first_alike, is_aged, repeats, with_if, Alike, ended_here}
+use Rattle.krb_audit.proofs.ForAnswers.{◌≡◌, List, ℕ, cond, Option, None, Some, ap, sym, ◌∙◌, ◌∷◌, [], append_assoc, ◌&&◌, ◌||◌, not, list_any, option_map, PlacedEntry, placed_entries, Old, ends_mit, first_number, map, standing, ap₂, Key, looked, same_key, clashes, first_alike, is_aged, repeats, with_if, Alike, ended_here}
 use Rattle.std.specs.Prelude.{Bool}
 use Rattle.std.specs.Option.{unwrap_or}
 use Rattle.krb_text.specs.Etype.{is_weak}
@@ -11,33 +11,33 @@ returns g c = λ k wanted before rest known.
     let all = placed_entries k in
     let x : PlacedEntry = (c.args.place, c.args.entry.now) in
     let old = c.args.self.now in
-    let first = c.next_number-first.result in
-    let next = c.next_number-first.ensures all rest x known.rows in
-    let marked = c.next_mark-old.ensures (Old None) 0 all rest x known.are_old in
+    let first = c.take-first.result.0 in
+    let next = c.take-first.ensures (standing (Old None) 0 all x) (map (standing (Old None) 0 all) rest) known.standings in
+    let number : first_number x.1.principal all ≡ Some first = sym (ap (λ (s : Option ℕ × Bool). s.0) next.0) in
+    let marked = ap (λ (s : Option ℕ × Bool). s.1) next.0 in
     let look : Key → Option (ℕ × List ℕ) = looked old.firsts in
     let key : Key = (record { 0 = first }, c.kvno-kvno.result, c.enctype-etype.result) in
     let is : key ≡ key_in first x = λ i. (record { 0 = first }, c.kvno-kvno.ensures i, c.enctype-etype.ensures i) in
     let hidden : (c.ends_mit-ends.result && not old.has_ended) ≡ (ends_mit x.1 && not (list_any (λ y. ends_mit y.1) before)) =
     ap (λ (b : Bool). b && not old.has_ended) c.ends_mit-ends.ensures ∙ ap (λ (b : Bool). ends_mit x.1 && not b) known.has_ended in
     let alike : c.in_ok-alike.alike ≡ first_alike before x =
-    c.in_ok-alike.ensures.alike ∙ ap (λ (s : List ℕ). option_map (alike_to s) (look key)) c.key.ensures ∙ ap (λ (l : Key). option_map (alike_to x.1.key) (look l)) is ∙ alike_here all before x first look known.firsts next.0 in
+    c.in_ok-alike.ensures.alike ∙ ap (λ (s : List ℕ). option_map (alike_to s) (look key)) c.key.ensures ∙ ap (λ (l : Key). option_map (alike_to x.1.key) (look l)) is ∙ alike_here all before x first look known.firsts number in
     let with_weak = c.with_if.ensures ∙ ap₂ (λ b s. with_if b Weak s) (c.is_weak.ensures ∙ ap is_weak c.enctype-etype.ensures) c.none.ensures in
     let with_size = c.with_if-2.ensures ∙ ap₂ (λ b s. with_if b Size s) c.has_odd_size.ensures with_weak in
     let with_hidden = c.with_if-3.ensures ∙ ap₂ (λ b s. with_if b Hidden s) hidden with_size in
     let with_same = c.with_if-4.ensures ∙ ap₂ (λ b s. with_if b Same s) (c.repeats.ensures ∙ ap repeats alike) with_hidden in
     let with_clash = c.with_if-5.ensures ∙ ap₂ (λ b s. with_if b Clash s) (c.clashes.ensures ∙ ap clashes alike) with_same in
-    let with_old = c.with_if-6.ensures ∙ ap₂ (λ b s. with_if b OldKey s) marked.0 with_clash in
-    let with_aged = c.with_if-7.ensures ∙ ap₂ (λ b s. with_if b Aged s) (c.is_aged.ensures ∙ ap (λ (b : Bool). not b && is_aged c.args.aged_by x.1) marked.0) with_old in
+    let with_old = c.with_if-6.ensures ∙ ap₂ (λ b s. with_if b OldKey s) marked with_clash in
+    let with_aged = c.with_if-7.ensures ∙ ap₂ (λ b s. with_if b Aged s) (c.is_aged.ensures ∙ ap (λ (b : Bool). not b && is_aged c.args.aged_by x.1) marked) with_old in
     let puts : (l : Key) → looked c.consider.new.self l ≡ cond (same_key (key_in first x) l) (Some (unwrap_or (look (key_in first x)) (x.0, x.1.key))) (look l) = λ l.
     c.in_ok-alike.ensures.kept l ∙ ap (λ (m : Key). cond (same_key m l) (Some (unwrap_or (look m) (x.0, c.key.result.now))) (look l)) is
     ∙ ap (λ (s : List ℕ). cond (same_key (key_in first x) l) (Some (unwrap_or (look (key_in first x)) (x.0, s))) (look l)) c.key.ensures in (
       λ i. record { findings = with_aged i; first = (c.place_of.ensures ∙ ap (option_map (λ (first : Alike). first.place)) alike) i },
       record {
         all = known.all ∙ sym (append_assoc before (x ∷ []) rest);
-        rows = next.1;
-        are_old = marked.1;
+        standings = next.1;
         missing = c.in_ok-mark_next.ensures wanted before x.0 known.missing;
-        firsts = firsts_next all before x first look (looked c.consider.new.self) known.firsts next.0 puts;
+        firsts = firsts_next all before x first look (looked c.consider.new.self) known.firsts number puts;
         has_ended = ap (λ (b : Bool). old.has_ended || b) c.ends_mit-ends.ensures ∙ ended_here before x old.has_ended known.has_ended;
         weak_etypes = c.add_weak.ensures before x known.weak_etypes c.enctype-etype.ensures;
       },

@@ -1,13 +1,10 @@
--- What is kept of the names of a keytab's entries, at the numbers of their first entries.
-use Rattle.std.specs.Prelude.{◌≡◌, ℕ, List, map, get_or, Bool, false, true, not, ◌&&◌, ◌==◌, Option, Some, None, option_map}
-use Rattle.std.specs.Vec.Iter.{into_iter_items}
+-- How the entries of a keytab compare to those of their names, from their rows.
+use Rattle.std.specs.Prelude.{◌≡◌, ℕ, ◌/◌, ◌%◌, List, get_or, Bool, false, true, not, ◌&&◌, ◌==◌, Option, Some, None, option_map}
 use Rattle.krb_wire.specs.Spelling.{Parts}
 use Rattle.krb_keytab.specs.Find.{PlacedEntry}
 use Rattle.krb_audit.specs.declared.rows.Row.{Row}
 use Rattle.krb_audit.specs.declared.selection.SelectedKvno.{SelectedKvno}
 use Rattle.krb_audit.specs.declared.selection.SelectedKvno.TheVariants.{Any, Exactly, Newest, Old}
-use Rattle.krb_audit.specs.declared.kvno_marks.SelectedVersions.{SelectedVersions}
-use Rattle.krb_audit.specs.declared.kvno_marks.SelectedVersions.TheVariants.{Each, This, Marked}
 use Rattle.krb_audit.specs.declared.newest.Stamp.{Stamp}
 use Rattle.krb_audit.specs.Newest.{has_other_version}
 use Rattle.krb_audit.specs.Rows.{first_number, newest_stamp, stamped}
@@ -37,12 +34,14 @@ selects_row (Exactly version) newest young r = r.stamp.kvno == version
 selects_row Newest newest young r = not (is_old_row newest r)
 selects_row (Old age) newest young r = not (get_or young r.first false) && is_old_row newest r
 
--- for each of some entries, whether its kvno is selected
-abbrev pub AreMarks : SelectedKvno → ℕ → List PlacedEntry → List PlacedEntry → List Bool → Type 0
-AreMarks kvno now all xs marks = marks ≡ map (λ x. has_selected_kvno kvno now all x.1) xs
+-- what the standing of a row has: its number, and whether its entry has a selected kvno
+abbrev pub standing_row : SelectedKvno → List (Option Stamp) → List Bool → Row → Option ℕ × Bool
+standing_row kvno newest young r = (Some r.first, selects_row kvno newest young r)
 
--- the prepared kvnos are the selected ones, for a pass over the entries `rest` among all
-abbrev pub AreVersions : {A : Type 0} → SelectedKvno → ℕ → List PlacedEntry → List PlacedEntry → SelectedVersions A → Type 0
-AreVersions kvno now all rest Each = kvno ≡ Any
-AreVersions kvno now all rest (This version) = kvno ≡ Exactly version
-AreVersions kvno now all rest (Marked marks) = AreMarks kvno now all rest (into_iter_items marks)
+-- what a standing has, which is stored as twice the number, and 1 if the kvno is selected
+abbrev pub shown_standing : ℕ → Option ℕ × Bool
+shown_standing s = (Some (s / 2), s % 2 == 1)
+
+-- the standing of an entry among all: the number of the first entry of its name, and whether its kvno is selected
+abbrev pub standing : SelectedKvno → ℕ → List PlacedEntry → PlacedEntry → Option ℕ × Bool
+standing kvno now all x = (first_number x.1.principal all, has_selected_kvno kvno now all x.1)
