@@ -98,7 +98,8 @@ LINKS = (
     ("a link through a link to a folder", OVER, links_to(("d", "t"), ("k", "d/k"))),
     ("a link that dangles", MAKES_IT, links_to(("k", "t/k"), data=None)),
     ("a chain that dangles", MAKES_IT, links_to(*CHAIN, data=None)),
-    ("a chain of 40 links", OVER, links_to(*long_chain(40))),
+    # Linux follows 40, and counts them again if it begins again, as while another program mounts.
+    ("a chain of 20 links", OVER, links_to(*long_chain(20))),
     ("a link into no folder", NO_FOLDER, links_to(("k", "no/k"))),
     ("a link to no folder", NO_FOLDER, links_to(("k", "no/"), data=None)),
     ("a link in a circle", NOWHERE, links_to(("k", "u/k"), ("u/k", "../k"))),
