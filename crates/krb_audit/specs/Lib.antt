@@ -1,6 +1,7 @@
 pub mod Newest
 pub mod Selection
 pub mod Tickets
+pub mod GoingOn
 pub mod Findings
 pub mod CheckUp
 pub mod Report

@@ -3,3 +3,4 @@ pub mod Listed
 pub mod Checked
 pub mod Matched
 pub mod Options
+pub mod Latest

@@ -1,13 +1,15 @@
 -- What klist does, and `klist -s`.
 use Rattle.std.specs.Prelude.{ℕ, ◌-◌, ◌^◌, List, length, filter, max, min, Bool, true, not, ◌&&◌, nat_lt, if◌then◌else◌, codes, Option, None, Some, ◌≡◌, ◌⊎◌, ◌+◌, [], ◌∷◌, ◌++◌, false, unwrap_or, Result, Ok, Err, is_ok, ◌||◌}
-use Rattle.std.specs.Option.{option_map_or, option_or}
+use Rattle.std.specs.List.{list_any}
+use Rattle.std.specs.Option.{option_or}
 use Rattle.krb_wire.specs.declared.format.Order.{Order}
 use Rattle.krb_walk.specs.Store.{fault_of}
 use Rattle.krb_walk.specs.declared.fault.Fault.{Fault}
 use Rattle.krb_driver.specs.declared.verdict.Verdict.{Verdict}
 use Rattle.krb_keytab.specs.Store.{KeytabState, store_of}
-use Rattle.krb_ccache.specs.Store.{CacheState, store_of as cache_store, PlacedCredential, open_result, placed_credentials}
+use Rattle.krb_ccache.specs.Store.{CacheState, store_of as cache_store, PlacedCredential, open_result}
 use Rattle.krb_files.specs.Plan.{Ends}
+use Rattle.krb_audit.specs.GoingOn.{is_tgt, is_ticket, looked_at}
 use Rattle.krb_json.specs.Cache.{cache_json_text}
 use Rattle.krb_json.specs.Keytab.{keytab_json_text}
 use Rattle.krb_keytab_text.specs.declared.columns.KtColumns.{KtColumns}
@@ -31,10 +33,7 @@ use Rattle.krb_driver.specs.RunErrors.{listing_verdict}
 use Rattle.krb_driver.specs.Several.{RunsOver, first_round}
 use Rattle.krb_driver.specs.declared.command.RunEnd.{RunEnd}
 use Rattle.krb_driver.specs.declared.command.World.{World}
-use Rattle.krb_wire.specs.Names.{have_same_name}
-use Rattle.krb_wire.specs.Spelling.{Parts}
 use Rattle.krb_ccache.specs.declared.open.CcOpenFault.{CcOpenFault}
-use Rattle.krb_ccache.specs.Config.{is_config}
 use Rattle.krb_files.specs.declared.files.Files.{Ghosts}
 use Rattle.krb_files.specs.declared.files.LoadFault.TheVariants as load
 use Rattle.krb_files.specs.Loading.{Answer, LoadsFile, most_bytes}
@@ -151,36 +150,28 @@ listing_of words = do
 
 -- ---- what `klist -s` does: whether a cache has a ticket to go on with
 
--- the ticket-granting service of a realm, `krbtgt/REALM@REALM`; the name type does not matter
-abbrev pub tgs_of : List ℕ → Parts
-tgs_of realm = record { name_type = 2; realm = realm; components = codes "krbtgt" ∷ realm ∷ [] }
-
--- a credential is a ticket, not a configuration entry
-abbrev pub is_ticket : PlacedCredential → Bool
-is_ticket x = not (is_config x.1)
-
--- a credential is a ticket-granting ticket of a realm
-abbrev pub is_tgt : List ℕ → PlacedCredential → Bool
-is_tgt realm x = is_ticket x && have_same_name x.1.server (tgs_of realm)
-
 -- the later of two times, or the only one
 abbrev pub later : Option ℕ → Option ℕ → Option ℕ
 later None other = other
 later (Some time) None = Some time
 later (Some time) (Some other) = Some (max time other)
 
--- the latest end of the credentials of which a rule holds
-abbrev pub latest : (PlacedCredential → Bool) → List PlacedCredential → Option ℕ
-latest of [] = None
-latest of (x ∷ xs) = later (if of x then Some x.1.times.endtime else None) (latest of xs)
+-- the latest end of tickets
+abbrev pub latest : List PlacedCredential → Option ℕ
+latest [] = None
+latest (x ∷ xs) = later (Some x.1.times.endtime) (latest xs)
 
--- when the tickets of a cache end: the latest end of the ticket-granting tickets of its default principal's realm, or of all tickets if there is no ticket-granting one
+-- when the tickets of a cache end: the latest end of those by which it is judged
 abbrev pub last_end : CacheState → Option ℕ
-last_end k = option_or (latest (is_tgt k.principal.realm) (placed_credentials k)) (latest is_ticket (placed_credentials k))
+last_end k = latest (looked_at k)
 
--- a cache has a ticket-granting ticket, or else a ticket, that is valid after a second
+-- a ticket is valid after a second
+abbrev pub is_valid_after : ℕ → PlacedCredential → Bool
+is_valid_after time x = nat_lt time x.1.times.endtime
+
+-- a cache has a ticket that is valid after a second, among those by which it is judged
 abbrev pub has_ticket : ℕ → CacheState → Bool
-has_ticket time k = option_map_or (λ end. nat_lt time end) (last_end k) false
+has_ticket time k = list_any (is_valid_after time) (looked_at k)
 
 -- ---- the run
 
@@ -245,5 +236,5 @@ ticket_check_of words = do
 -- what was seen so far, with what the rest shows, is what all show
 pub record SeesSoFar (realm : List ℕ) (rest all : List PlacedCredential) (seen : Seen) : Type 0 where
   pub count : min (2 ^ 64 - 1) (seen.count + length (filter is_ticket rest)) ≡ min (2 ^ 64 - 1) (length (filter is_ticket all))
-  pub tgt_end : later seen.tgt_end (latest (is_tgt realm) rest) ≡ latest (is_tgt realm) all
-  pub ticket_end : later seen.ticket_end (latest is_ticket rest) ≡ latest is_ticket all
+  pub tgt_end : later seen.tgt_end (latest (filter (is_tgt realm) rest)) ≡ latest (filter (is_tgt realm) all)
+  pub ticket_end : later seen.ticket_end (latest (filter is_ticket rest)) ≡ latest (filter is_ticket all)

@@ -3,6 +3,7 @@ use Rattle.std.specs.Prelude.{◌≡◌, ◌⊎◌, ◌<◌, ◌-◌, ◌^◌, �
 use Rattle.std.specs.Option.{option_or}
 use Rattle.krb_wire.specs.Names.{name_text}
 use Rattle.krb_ccache.specs.Store.{CacheState, placed_credentials}
+use Rattle.krb_audit.specs.GoingOn.{is_ticket}
 use Rattle.krb_files.specs.declared.files.Files.{Ghosts}
 use Rattle.krb_files.specs.Plan.{Ends}
 use Rattle.krb_json.specs.declared.summary.CacheSummary.{CacheSummary}
@@ -17,7 +18,7 @@ use Rattle.krb_driver.specs.Loading.{cache_of}
 use Rattle.krb_driver.specs.Mistakes.{Matched, MistakeParts, typed}
 use Rattle.krb_driver.specs.Spelled.{◌>>◌}
 use Rattle.krb_driver.specs.Several.{RunsOver, first_round}
-use Rattle.krb_readers.specs.Klist.{apart, has_ticket, is_ticket, last_end, odd_columns, odd_seconds}
+use Rattle.krb_readers.specs.Klist.{apart, has_ticket, last_end, odd_columns, odd_seconds}
 
 -- the heading of `klist -l`; JSON has none
 abbrev pub heading : Bool → List ℕ

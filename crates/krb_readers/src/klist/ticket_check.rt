@@ -3,12 +3,12 @@
 ghost use Rattle.std.specs.Prelude.{◌≡◌, [], ◌∷◌, List, Some};
 ghost use Rattle.krb_ccache.specs.Store.{CacheState, open_result, PlacedCredential, placed_credentials};
 ghost use Rattle.krb_files.specs.Loading.{most_bytes};
-ghost use Rattle.krb_readers.specs.Klist.{RunsTicketCheck, odd_files, odd_with_silent, opened_status, SeesSoFar, has_ticket, last_end, later, tgs_of, ticket_check_of};
+ghost use Rattle.krb_readers.specs.Klist.{RunsTicketCheck, odd_files, odd_with_silent, opened_status, SeesSoFar, has_ticket, last_end, later, ticket_check_of};
 ghost use Rattle.krb_driver.specs.Mistakes.{Refuses};
 ghost use Rattle.krb_driver.specs.Spelled.{Spells};
-ghost use Rattle.krb_wire.specs.Names.{have_same_name};
 
 use crate::klist::words::{refuse_columns, refuse_odd_seconds, refuse_with, refuse_with_cache};
+use krb_audit::is_tgs;
 use krb_ccache::{Ccache, CredView, is_config};
 use krb_driver::{FileName, Matches, Mistake, Phrase, spelled_seconds, times_given, typed};
 use krb_files::{Files, LoadFault};
@@ -93,9 +93,6 @@ pub fn run_ticket_check<A: Allocator, F: Files>(
     }
 }
 
-// The first component of the ticket-granting service's name.
-const KRBTGT: &[u8] = b"krbtgt";
-
 /// What was seen of the tickets of a cache.
 #[derive(Clone, Copy)]
 pub struct SeenTickets {
@@ -105,21 +102,6 @@ pub struct SeenTickets {
     tgt_end: Option<u32>,
     /// The latest end of all.
     ticket_end: Option<u32>,
-}
-
-// Returns whether a server is the ticket-granting service of that realm.
-fn is_tgs<N: Name>(realm: &[u8], server: &N) -> bool
-    ensures { result ≡ have_same_name (N.parts server.now) (tgs_of realm.now) }
-{
-    let mut components = server.components();
-    let (Some(first), Some(second), None) = (
-        components.next(),
-        components.next(),
-        components.next(),
-    ) else {
-        return false;
-    };
-    server.realm() == realm && first == KRBTGT && second == realm
 }
 
 // Returns the later of a time, if there is one, and another.
