@@ -1,7 +1,7 @@
 #!/bin/sh
 # A plugin for Nagios: check_keytabs.sh OPTION.. FILE.., with options of ktcheck, as --allow weak and --older 365d.
-# It is CRITICAL if something is wrong with a keytab or one is missing. Install it beside the other plugins, and have
-# NRPE run it by sudo, since only root can read keytabs.
+# It is CRITICAL if something is wrong with a keytab or one is missing, and counts what was found. Install it beside the
+# other plugins, and have NRPE run it by sudo, since only root can read keytabs.
 PATH=$PATH:/usr/local/bin
 found=$(krbfile ktcheck -q --json "$@" 2>&1)
 # 2 and 4: the check could not run, or not to its end. 3: a file could not be read, so nobody knows how it is; what was
@@ -14,8 +14,8 @@ esac
 # Messages stand beside the objects of files. After a bar Nagios would read performance data.
 found=$(printf %s "$found" | jq -Rrn '[
     inputs | if startswith("krbfile: ") then .[9:] else fromjson | select(.findings) | "\(.file): " + (
-        [.findings[] | [.finding, .principal // .principal_hex // empty] | join(" ")]
-        + [.fault // empty | "fault \(.kind) at \(.place)"] | join(", ")) end
+        [(.findings | group_by(.finding)[] | "\(length) \(.[0].finding)"),
+            (.fault // empty | "fault \(.kind) at \(.place)")] | join(", ")) end
     ] | join("; ") | gsub("[|\n]"; "/")')
 printf 'KEYTABS %s%s\n' "$state" "${found:+: $found}"
 exit "$status"

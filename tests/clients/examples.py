@@ -14,18 +14,21 @@ from pages.readme import installed
 from runs.harness import TOP, Outcome, Report, files_in, folder_of, message, run
 
 # The files of jobs, each with a line that it prints.
-FOUND = b"./mixed.keytab: weak 53 kvno 3 etype 23 b@R\n./mixed.keytab: entries 2 free 0 holes 0\n"
+FOUND = b"".join(b"./mixed.keytab: " + line for line in (
+    b"weak 53 kvno 3 etype 23 b@R\n", b"nostrong kvno 3 b@R\n", b"entries 2 free 0 holes 0\n"))
 JOBS = {"keytabs.cron": FOUND, "keytabs.service": FOUND, "keytabs.yml":
         b'{"file":"./mixed.keytab","mode":"600","entries":2,"free":0,"holes":0,"findings":[{"finding":"weak",'
-        b'"place":53,"kvno":3,"etype":23,"principal":"b@R"}],"fault":null,"status":1}'}
+        b'"place":53,"kvno":3,"etype":23,"principal":"b@R"},{"finding":"nostrong","kvno":3,"principal":"b@R"}],'
+        b'"fault":null,"status":1}'}
 MATCHED = Outcome(0, b"opens 273 kvno 2 etype 23 at 168 HTTP/www.example.org@EXAMPLE.ORG\n")  # what ticket.conf prints
 REMOVED = b"removed 2 kvno 3 etype 17 host/a@R\n"  # another line, which all jobs print
 
 # The scripts, also over a cache with an offset and two tickets for one service, and the files that they leave.
 SCRIPTS = {
     "check_keytabs.sh host.keytab": Outcome(0, b"KEYTABS OK\n"),
-    "check_keytabs.sh --want 'a|b@R' damaged.keytab no": Outcome(
-        2, b"KEYTABS CRITICAL: damaged.keytab: missing a/b@R, fault 2 at 53; no: no such file\n"),
+    "check_keytabs.sh --want c@R --want d@R mixed.keytab damaged.keytab 'n|o'": Outcome(
+        2, b"KEYTABS CRITICAL: mixed.keytab: 2 missing, 1 nostrong, 1 weak; "
+           b"damaged.keytab: 2 missing, fault 2 at 53; n/o: no such file\n"),
     "check_keytabs.sh host.keytab .": Outcome(3, b"KEYTABS UNKNOWN: .: cannot read\n"),
     "check_tickets.sh krb5.keytab alice.ccache": Outcome(0, b"TICKETS OK\n"),
     "check_tickets.sh -p HTTP/www.example.org@EXAMPLE.ORG next.keytab alice.ccache no": Outcome(
@@ -51,6 +54,7 @@ krbfile_keytab_status{file="mixed.keytab"} 1
 krbfile_keytab_status{file="twice.keytab"} 1
 krbfile_keytab_status{file="."} 3
 # TYPE krbfile_keytab_findings gauge
+krbfile_keytab_findings{file="mixed.keytab",finding="nostrong"} 1
 krbfile_keytab_findings{file="mixed.keytab",finding="weak"} 1
 krbfile_keytab_findings{file="twice.keytab",finding="missing"} 1
 krbfile_keytab_findings{file="twice.keytab",finding="same"} 1

@@ -7,7 +7,7 @@ from dataclasses import replace
 
 from keytabs.listings import KEY_SIZES
 from keytabs.removals import line_of
-from makers.images import B, HOST, TWO, Entry, keytab
+from makers.images import B, HOST, TWO, Entry, keytab, record
 from runs.harness import Case, Outcome, Report, folder_of, over, printed, run, with_mode
 
 LONG = 32_768  # the smallest length that MIT's reader takes for the end
@@ -45,7 +45,10 @@ OBJECTS = """{"file":"k","mode":"4644","entries":5,"free":12,"holes":2,"findings
 {"finding":"clash","place":147,"first":57,"kvno":3,"etype":17,"principal":"b@R"},\
 {"finding":"old","place":147,"kvno":3,"etype":17,"principal":"b@R"},\
 {"finding":"aged","place":187,"kvno":4,"etype":17,"principal":"b@R"},\
-{"finding":"missing","principal":"\\u007f\\"c\\u0080\\u009f\u00a0@R"}],"fault":{"kind":1,"place":232},"status":1}
+{"finding":"nostrong","kvno":3,"principal_hex":"ff7f4052"},\
+{"finding":"missing","principal":"\\u007f\\"c\\u0080\\u009f\u00a0@R"},\
+{"finding":"unwanted","principal_hex":"ff7f4052"},{"finding":"unwanted","principal":"b@R"}],\
+"fault":{"kind":1,"place":232},"status":1}
 {"file":"no","error":"no such file","status":1}
 """
 PIPED = """{"file":"/dev/stdin","mode":null,"entries":2,"free":0,"holes":0,"findings":[],"fault":{"kind":1,"place":98},\
@@ -71,15 +74,26 @@ def found(name: str, entries: list[Entry], *lines: str) -> Case:
 # Versions of a name, the old one first. A version of 8 bits begins again: one above 240 is older than one below 128.
 VERSIONS = (255, 1), (241, 127), (128, 241), (127, 240)
 
-THEOREMS = [Case("objects", ("ktcheck", "--json", "--older", "0", "--want", "\x7f\"c\x80\x9f\xa0@R", "k", "no"),
-                Outcome(1, OBJECTS.encode(), b"krbfile: no: no such file\n"), {"k": EACH}, mode=0o104_644)]
+# Entries of names: versions and types, and what is found about each. A name with another name type is the same.
+MIXED = [(replace(B, components=(name,), version8=kvno, version32=kvno, enctype=enctype, **more), words)
+         for name, kvno, enctype, words, more in (
+    (b"b", 3, 23, "weak", {}), (b"a", 3, 16, "weak", {"key": bytes(24)}), (b"c", 3, 23, "weak old", {}),
+    (b"c", 4, 17, "", {}), (b"d", 4, 17, "old", {}), (b"d", 5, 23, "weak", {}), (b"d", 5, 3, "weak", {"key": bytes(8)}),
+    (b"e", 3, 23, "weak", {}), (b"e", 3, 17, "", {"name_type": 3}), (b"f", 255, 17, "old", {}),
+    (b"f", 1, 23, "weak", {"name_type": 3}), (b"b", 3, 1, "weak", {"name_type": 3, "key": bytes(8)}))]
+
+THEOREMS = [
+    Case("objects", ("ktcheck", "--json", "--older=0", "--only", "--want", "\x7f\"c\x80\x9f\xa0@R", "k", "no"),
+         Outcome(1, OBJECTS.encode(), b"krbfile: no: no such file\n"), {"k": EACH}, mode=0o104_644),
+]
 
 CASES = [
     *THEOREMS, Case("an object", ("ktcheck", "--json", "/dev/stdin"), Outcome(1, PIPED.encode()), stdin=TWO + b"\0"),
     found("keys of each length", SIZED, *(
         f"{word} {line_of(it, *SIZED[:at])}" for at, it in enumerate(SIZED) for word, is_so in (
             ("weak", it.enctype in (3, 16, 23)),
-            ("size", KEY_SIZES.get(it.enctype, len(it.key)) != len(it.key))) if is_so)),
+            ("size", KEY_SIZES.get(it.enctype, len(it.key)) != len(it.key))) if is_so),
+          *(f"nostrong kvno 3 {size}@R" for size in (23, 24, 25, 7, 8, 9))),
     found("versions that begin again", [
         Entry((b"%d" % at,), version8=it, version32=it) for at, those in enumerate(VERSIONS) for it in those],
         *(f"old {2 + 90 * at} kvno {it} etype 17 {at}@R" for at, (it, _) in enumerate(VERSIONS))),
@@ -87,6 +101,20 @@ CASES = [
          with_mode("missing c@R", "entries 2 free 0 holes 0")),
     found("the same key", [HOST, HOST], "same 53 2 kvno 3 etype 17 host/a@R"),
     found("another key", [HOST, B, replace(B, key=b"another key here")], "clash 98 53 kvno 3 etype 17 b@R"),
+    found("names with weak keys alone", [it for it, _ in MIXED], *(
+        f"{word} {line_of(it, *(each for each, _ in MIXED[:at]))}"
+        for at, (it, words) in enumerate(MIXED) for word in words.split()),
+        *(f"nostrong kvno {name}@R" for name in ("3 b", "3 a", "5 d", "1 f"))),
+    # Two names that print alike are two, and one with another name type is the same.
+    over("names that are not wanted", r"ktcheck --only --want \c@R --want b@R k",
+         keytab(HOST, B, replace(HOST, name_type=3), Entry((b"c",)), Entry(()), Entry((b"",))),
+         with_mode("same 98 2 kvno 3 etype 17 host/a@R", "hidden 194 kvno 3 etype 17 @R", "unwanted host/a@R",
+                   "unwanted @R", "unwanted @R", "entries 6 free 0 holes 0")),
+    # What follows a fault changes nothing.
+    over("a damaged file", "ktcheck --only --want c@R --want b@R k",
+         keytab(replace(HOST, enctype=23), B, record(bytes(10)), HOST, Entry((b"c",))),
+         with_mode("weak 2 kvno 3 etype 23 host/a@R", "nostrong kvno 3 host/a@R", "missing c@R", "unwanted host/a@R",
+                   "fault 3 at 98", "entries 2 free 0 holes 0")),
     found("all of an entry", [replace(B, enctype=23), replace(B, enctype=23, key=b""), replace(B, version32=4)],
           *(f"{it} kvno 3 etype 23 b@R" for it in (
               "weak 2", "old 2", "weak 47", "size 47", "hidden 47", "clash 47 2", "old 47"))),

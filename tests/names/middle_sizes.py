@@ -53,10 +53,10 @@ CASES = [
         *(replace(B, components=(b"%04d" % at,), timestamp=0) for at in range(COUNT)))}, text([
             "k: keytab, 5000 keys of 5000 principals", TABLE, *lines(KEYS + "{number:04}@R"),
             *["", "j: keytab, 1 key of 1 principal", TABLE, KEYS + "b@R"] * 60]), setting=for_owner),
-    lambda: over_files("ktcheck", f"{WANTED} k{OTHERS}", {"k": K, "j": J}, text([
+    lambda: over_files("ktcheck", f"--only {WANTED} k{OTHERS}", {"k": K, "j": J}, text([
         *lines("k: old " + ENTRY)[:-50], "k: entries 5000 free 0 holes 0", *labelled(
-            j=[*(f"missing {name}" for name in NAMES), "entries 1 free 0 holes 0"]) * 60]),
-                       *words("k", "old"), *words("j", "missing"), setting=for_owner),
+            j=[*(f"missing {name}" for name in NAMES), "unwanted b@R", "entries 1 free 0 holes 0"]) * 60]),
+                       *words("k", "old"), *words("j", "missing", "unwanted"), setting=for_owner),
     lambda: row(f"ktmatch {BY_NAME} k c{OTHERS}", lines("c: opens {ticket} kvno {kvno} etype 17 at {place} {name}"),
                 k=K, c=OWN, j=CACHES["j"]),
     lambda: row("ktfind k 100 17 49@R", lines("found " + ENTRY)[-1:], k=K),

@@ -204,7 +204,7 @@ def usual_runs(size: str, image: bytes, tickets: bytes, rotated: bytes, counts: 
         at_now("show k c no r", k=image, c=tickets, r=rotated), at_now("ktcheck k", k=rotated),
         *(at_now(line, k=image, c=tickets, d=VALID) for line in ("ktmatch k c", "ktmatch --json k d no c d")),
         *(at_now(f"ktcheck {options}k no r k", k=image, r=rotated)
-          for options in ("", "--json --older 18500d --want c@R ")),
+          for options in ("", "--json --older 18500d --only --want c@R ")),
         at_now("ktedit k", mixed_script(image, counts[0]), name=f"a {size} script", k=image),
         at_now("ktremove -k old k", name=f"of {size} old versions", k=rotated),
         *(at_now(f"ktcopy {options} k t", name=f"{options} of {size} keytabs", k=source, t=target)

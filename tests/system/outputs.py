@@ -99,7 +99,7 @@ def check_pieces(report: Report, program: str) -> None:
     image, cache = mixed_keytab(3_000), mixed_cache(400)
     for one in (undisturbed("klist -k k", k=image), undisturbed("klist -kK --json k", k=image),
                 undisturbed("klist -cefC c", c=cache), undisturbed("klist --json c", c=cache),
-                undisturbed("ktcheck --json --older 1 k", k=image)):
+                undisturbed("ktcheck --json --older 1 --only --want c@R k", k=image)):
         got, lengths = pieces_of(program, one)
         faults = differences(one.wanted, got)
         faults += [f"a write of {max(lengths)} bytes"] if max(lengths, default=0) > LONGEST else []

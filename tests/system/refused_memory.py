@@ -8,7 +8,7 @@ line. Help is printed, or a prefix of it.
 import os
 from dataclasses import replace
 
-from makers.images import HOST, TICKET, TWO, cache, keytab
+from makers.images import B, HOST, TICKET, TWO, cache, keytab
 from runs.commands import COMMANDS, NOW, at_now, large_runs, rotated_keytab, small_runs
 from runs.harness import EXPLAIN, Outcome, Report, differences, words_of
 from runs.system_calls import Counted, Preloaded, preloaded
@@ -19,7 +19,8 @@ ALL = 5_000  # over small ones, more than there are: all
 WAYS = {"once": {}, "from it on": {"REFUSE_LASTS": 1}}  # settings that refuse one, and those that refuse all from it on
 
 # A check that explains what it finds, with hints.
-EXPLAINED = at_now((EXPLAIN, "ktcheck", "a b", "r", "no"), **{"a b": keytab(HOST, HOST), "r": rotated_keytab(4)})
+EXPLAINED = at_now((EXPLAIN, "ktcheck", "a b", "r", "no"),
+                   **{"a b": keytab(HOST, HOST, replace(B, enctype=23)), "r": rotated_keytab(4)})
 OWN = f"/tmp/krb5cc_{os.getuid()}"  # the cache of a user whose environment names none
 
 # Lines that leave out the file, with the environment, and the file that they are for.

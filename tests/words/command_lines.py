@@ -30,7 +30,7 @@ REFUSED: list[str | Line] = [
         "ktcopy": "-n k, -p b@R k, -p= k t, -k New k t, -n=yes k t, -r k t, --expired k t, -k new --age 3 k t",
         "ktdiff": "-n k t, -p= k t, -e 65536 k t, --replace k t, k, -as c@R k t, -k new k t",
         "ktmatch": "-p b@R/ k c, -p= k c, --service b@R k c, -p b@R, -k k c, --with-filename=yes k c, --want b@R k c",
-        "ktcheck": "--older= k, -older 3 k, --want= k, --want @@ k, --with-filename=yes k",
+        "ktcheck": "--older= k, -older 3 k, --want= k, --want @@ k, --with-filename=yes k, --only=b@R k",
         "ccremove": "-p b@R, -p b@R\\ c, -k old c, --v1-big --expired c, -expired c, --all-services=yes c, -a c",
         "hold": "-c k, -kx k, -k=yes k, --in-place=yes k, --json k, -V k, -k"}.items() for rest in lines_of(those)),
     # Words that are not UTF-8, and empty ones.
@@ -76,6 +76,7 @@ SAME: dict[str, str] = {
     "ktcheck -q k m": "ktcheck --quiet k m", "ktcheck --json -q k m": "ktcheck --quiet --json -H k m",
     "ktcheck -H --older 1m --want b@R --want host/a@R m": r"ktcheck --older=60 m --with-filename --want=\host/a@R, "
                                                           "ktcheck -HH --want b@R --older 60s -- FILE:m",
+    "ktcheck --only --want b@R k m": "ktcheck k --want=b@R --only m --only",
     "--version": "-V, --version klist, -V klist -x, --explain -V", "--help": "-h, help, --explain help",
     **{f"{name} --help": ", ".join((
         f"help {name}, {name} -h, --explain help {name}",

@@ -42,6 +42,7 @@ MISTAKES: dict[str, str | list[Line]] = {
     "--age goes with -k old alone": "ktremove --age 3 -p a@R k, ktremove -k 3 --age 3 k",
     "--age is given twice": "ktremove -k old --age 3 --age 3 k", "--want needs a value": "ktcheck --want --json k",
     "--older is given twice": "ktcheck --want b --allow k --older x --older 3 k",
+    "--only goes with --want": "ktcheck --only k, ktcheck k --only --allow unwanted --older 3",
     "-k does not go with FILE": "show -k k", "--keytab does not go with FILE": "show k t --keytab",
     "-s does not go with -k": "klist -s -k k, klist -sk k", "--for goes with -s alone": "klist --for=3 -k k",
     "--for needs a value": "klist -s k --for", "unknown option -q=yes": "ktcheck -q=yes k, ktmatch -q=yes k",

@@ -76,7 +76,7 @@ AFTERMATHS = {"restored": "the old bytes are back", **dict(zip(
 # in theirs.
 FINDINGS, MATCHES = ({word: re.search(rf"^\.It Ic {word}\b.*\n(.*):$", PAGE, re.MULTILINE)[1] for word in words}
                      for words in (
-    ("weak", "hidden", "same", "clash", "old", "mode", "size", "aged", "missing", "empty"),
+    ("weak", "hidden", "same", "clash", "old", "mode", "size", "aged", "missing", "empty", "nostrong", "unwanted"),
     ("user", "unread", "name", "kvno", "etype")))
 HINTS = dict(zip(("old", "weak", "same"), displayed("has hints for them, in this order:"), strict=True))
 

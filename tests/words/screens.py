@@ -31,8 +31,8 @@ def named(*words: str, image: bytes | None = None) -> Undisturbed:
 RUNS = [
     undisturbed("klist --json -k j", **TEXTS), undisturbed("klist --json d", **TEXTS),
     undisturbed("klist -l --json d", **TEXTS), undisturbed("ktmatch --json j d", **TEXTS),
-    undisturbed("ktcheck --json --older 1 j", **TEXTS),
-    undisturbed(("ktcheck", "--want", "\x1b@R", "k"), k=keytab(B)), undisturbed("ktutil", b"rkt k\x1b\n"),
+    undisturbed("ktcheck --json --older 1 --only --want b@R j", **TEXTS),
+    undisturbed(("ktcheck", "--only", "--want", "\x1b@R", "j"), **TEXTS), undisturbed("ktutil", b"rkt k\x1b\n"),
     named("klist", "-k"), named("klist", "--json", "-k"), named("ktcheck"), named("ktcheck", "--json"),
     named("ktcheck", "-H", image=keytab(B) + b"\0"), named("ktremove", "-n", "-p", "b@R", FILE, image=keytab(B)),
     undisturbed("klist -l c", **WILD_FILES),

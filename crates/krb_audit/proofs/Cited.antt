@@ -10,14 +10,15 @@ pub use Rattle.std.specs.Option.{option_or, option_map_or, MatchOption}
 pub use Rattle.std.specs.Prelude.{◌||◌, ◌&&◌, not, ◌==◌, filter, option_map, find, unwrap_or, nat_lt, Vec}
 pub use Rattle.std.specs.Str.{bytes_eq}
 pub use Rattle.std.specs.Vec.{vec_items}
-pub use Rattle.krb_audit.specs.Findings.{is_alike, ends_mit, as_alike, marks_of, is_out, first_hidden, hidden_from, marked_after, Marked, reported, first_alike, clashes, is_aged, repeats}
-pub use Rattle.krb_audit.specs.Standings.{AreNewest, selects_row, is_old_row, AreYoung, is_young_row, standing, standing_row, shown_standing}
+pub use Rattle.krb_audit.specs.Findings.{is_alike, ends_mit, as_alike, marks_of, is_out, first_hidden, hidden_from, CheckAsked, Marked, reported, first_alike, clashes, is_aged, repeats}
+pub use Rattle.krb_audit.specs.Standings.{AreNewest, AreStrong, selects_row, is_old_row, AreYoung, is_strong_row, is_young_row, numbered_rows, rank_row}
+pub use Rattle.krb_audit.specs.Ranks.{RankParts, is_first, is_strong_of, mapped_after, newest_kvno, rank_of, shown_rank}
 pub use Rattle.krb_audit.specs.Versions.{AreVersions}
 pub use Rattle.krb_audit.specs.ByName.{HasPlace, at_number, stepped}
 pub use Rattle.krb_audit.specs.Names.{kt_name, type_len}
 pub use Rattle.krb_audit.specs.Newest.{is_old, newer, has_other_version, is_newer, newest_from, newest}
 pub use Rattle.krb_audit.specs.CheckUp.{holes, counts_at, uncounted, added_once, prints_as, about_entries}
-pub use Rattle.krb_audit.specs.Report.{finding_lines, octal, missing_line, finding_line}
+pub use Rattle.krb_audit.specs.Report.{finding_lines, octal, missing_line, finding_line, name_line}
 pub use Rattle.krb_audit.specs.Rows.{first_number, AreRows, AreNumbered, IsNameKey, name_in, stamp_of, row_in, shown, stamped, newer_stamp}
 pub use Rattle.krb_names.specs.Hash.{HashedName, hash_of, name_cmp}
 pub use Rattle.krb_audit.specs.Selection.{has_selected_kvno, is_named, is_young, AsksFor, has_text}

@@ -4,6 +4,9 @@ pub mod Numbering
 pub mod RowLemmas
 pub mod NewestStamps
 pub mod StandingLemmas
+pub mod RankLemmas
+pub mod TallyLemmas
+pub mod FoundCounts
 pub mod SelectedLemmas
 pub mod FirstsLemmas
 pub mod FindingsLemmas

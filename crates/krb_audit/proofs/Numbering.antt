@@ -5,6 +5,7 @@ use Rattle.krb_names.specs.Numbers.{GetsNumber}
 use Rattle.krb_names.proofs.NameOrder.{hashes_tie}
 use Rattle.krb_names.proofs.Numbered.{number_is, numbers_next}
 use Rattle.krb_names.proofs.SameNames.{same_equiv}
+use Rattle.krb_text.specs.Etype.{is_weak}
 use Rattle.krb_audit.proofs.NameBytes.{same_bytes}
 
 -- names are the same iff their keys compare equal
@@ -14,12 +15,12 @@ keys_tie f p q k l of_p of_q = grind (arith, hashes_tie k l of_p.hash of_q.hash,
 pub none_numbered : {A : Type 0} (f : KtFormat) (all rest : List PlacedEntry) (names : Names A) → rest ≡ all → names.numbers.entries ≡ [] → names.rows.items ≡ [] → AreNumbered f all rest names
 none_numbered f all rest names is empty none = record { before = []; parts = is; numbers = λ p k of_p. rw empty refl; rows = rw none refl }
 
-pub numbered_next : {A : Type 0} (f : KtFormat) (all rest : List PlacedEntry) (x : PlacedEntry) (names new : Names A) (k : HashedName) (row : Row) → AreNumbered f all (x ∷ rest) names → IsNameKey f (name_in x) k → GetsNumber names.numbers new.numbers k (length names.rows.items) row.first → row.stamp ≡ stamp_of x.1 → new.rows.items ≡ names.rows.items ++ row ∷ []
+pub numbered_next : {A : Type 0} (f : KtFormat) (all rest : List PlacedEntry) (x : PlacedEntry) (names new : Names A) (k : HashedName) (row : Row) → AreNumbered f all (x ∷ rest) names → IsNameKey f (name_in x) k → GetsNumber names.numbers new.numbers k (length names.rows.items) row.first → row.stamp ≡ stamp_of x.1 → row.is_weak ≡ is_weak x.1.enctype → new.rows.items ≡ names.rows.items ++ row ∷ []
     → AreNumbered f all rest new
-numbered_next f all rest x names new k row h of_x gets stamp pushed =
+numbered_next f all rest x names new k row h of_x gets stamp weak pushed =
     let count : length names.rows.items ≡ length h.before = sym (length-map names.rows.items shown) ∙ ap length h.rows ∙ length-map h.before (row_in all) in
     let number = ap (first_number (name_in x)) (sym h.parts) ∙ number_is name_in have_same_name same_equiv (IsNameKey f) (keys_tie f) h.before x k (length names.rows.items) row.first names.numbers new.numbers h.numbers of_x count gets rest in
-    let here : shown row ≡ row_in all x = λ i. (sym number i, stamp i) in
+    let here : shown row ≡ row_in all x = λ i. (sym number i, stamp i, weak i) in
     record {
       before = h.before ++ x ∷ [];
       parts = append_assoc h.before (x ∷ []) rest ∙ h.parts;

@@ -1,18 +1,20 @@
 -- Rows, the entries that they are of, and lists with something at the number of each name.
 use Rattle.krb_names.proofs.Numbered.{number_test}
 use Rattle.krb_names.proofs.SameNames.{same_equiv}
-use Rattle.krb_audit.proofs.Cited.{replicate, cases_lt, get_or-replicate, get_or_past, length-replicate, name_in, at_number, stepped, have_same_name, Parts, Some, ◌≡◌, ℕ, cond, List, [], ◌∷◌, length, map, get_or, Option, Some, refl, ap, ◌∙◌, arith, fold, eqb-true, eq-eqb, PlacedEntry, Row, Stamp, AreRows, HasPlace, first_number, stamp_of, drop, get_or-set_same, get_or-set_other}
+use Rattle.krb_text.specs.Etype.{is_weak}
+use Rattle.krb_audit.proofs.Cited.{Bool, replicate, cases_lt, get_or-replicate, get_or_past, length-replicate, name_in, at_number, stepped, have_same_name, Parts, Some, ◌≡◌, ℕ, cond, List, [], ◌∷◌, length, map, get_or, Option, Some, refl, ap, ◌∙◌, arith, fold, eqb-true, eq-eqb, PlacedEntry, Row, Stamp, AreRows, HasPlace, first_number, stamp_of, drop, get_or-set_same, get_or-set_other}
 
 -- a row is that of an entry among all
 pub record IsRow (all : List PlacedEntry) (x : PlacedEntry) (r : Row) : Type 0 where
   pub first : first_number x.1.principal all ≡ Some r.first
   pub stamp : r.stamp ≡ stamp_of x.1
+  pub weak : r.is_weak ≡ is_weak x.1.enctype
 
-head_row : (all xs : List PlacedEntry) (x : PlacedEntry) (r : Row) (rs : List Row) → AreRows all (x ∷ xs) (r ∷ rs) → IsRow all x r
+pub head_row : (all xs : List PlacedEntry) (x : PlacedEntry) (r : Row) (rs : List Row) → AreRows all (x ∷ xs) (r ∷ rs) → IsRow all x r
 head_row all xs x r rs h = search arith
 
-other_rows : (all xs : List PlacedEntry) (x : PlacedEntry) (r : Row) (rs : List Row) → AreRows all (x ∷ xs) (r ∷ rs) → AreRows all xs rs
-other_rows all xs x r rs h = ap (λ (l : List (Option ℕ × Stamp)). drop 1 l) h
+pub other_rows : (all xs : List PlacedEntry) (x : PlacedEntry) (r : Row) (rs : List Row) → AreRows all (x ∷ xs) (r ∷ rs) → AreRows all xs rs
+other_rows all xs x r rs h = ap (λ (l : List (Option ℕ × Stamp × Bool)). drop 1 l) h
 
 -- what is read of rows can be read of the entries
 pub map_rows : {B : Type 0} (f : Row → B) (g : PlacedEntry → B) (all : List PlacedEntry) → ((r : Row) (x : PlacedEntry) → IsRow all x r → f r ≡ g x) → (xs : List PlacedEntry) (rows : List Row) → AreRows all xs rows → map f rows ≡ map g xs

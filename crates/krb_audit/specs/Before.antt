@@ -1,5 +1,5 @@
 -- What is known before an entry of a keytab: the first entry of each name, kvno and enctype, in a map, and more.
-use Rattle.std.specs.Prelude.{◌≡◌, List, ◌++◌, ℕ, find, map, Bool, ◌&&◌, ◌==◌, Option, None, Some, option_map}
+use Rattle.std.specs.Prelude.{◌≡◌, List, ◌++◌, ℕ, find, map, Bool, ◌&&◌, ◌==◌, Option, Some, option_map}
 use Rattle.std.specs.List.{list_any}
 use Rattle.krb_names.specs.Marks.{AreMarked}
 use Rattle.krb_keytab.specs.Find.{PlacedEntry, placed_entries}
@@ -7,10 +7,9 @@ use Rattle.krb_keytab.specs.Store.{KeytabState}
 use Rattle.krb_audit.specs.declared.findings.Before.{Before}
 use Rattle.krb_audit.specs.declared.missing.Missing.{Missing}
 use Rattle.krb_audit.specs.CheckUp.{prints_as}
-use Rattle.krb_audit.specs.declared.selection.SelectedKvno.TheVariants.{Old}
 use Rattle.krb_audit.specs.Findings.{ends_mit, weak_among, is_alike}
 use Rattle.krb_audit.specs.Rows.{first_number}
-use Rattle.krb_audit.specs.Standings.{standing}
+use Rattle.krb_audit.specs.Ranks.{mapped_after, rank_of}
 use Rattle.std.specs.BTreeMap.{get}
 use Rattle.std.specs.declared.cmp.Ordering.{Ordering}
 use Rattle.std.specs.declared.cmp.Reverse.{Reverse}
@@ -44,7 +43,7 @@ IsMissing wanted before m = AreMarked (λ text. list_any (prints_as text) before
 -- what is known of a keytab between the entries `before` and the entries `rest`
 pub record IsBefore {A : Type 0} (k : KeytabState) (wanted : List (List ℕ)) (before rest : List PlacedEntry) (b : Before A) : Type 0 where
   pub all : placed_entries k ≡ before ++ rest
-  pub standings : b.standings ≡ map (standing (Old None) 0 (placed_entries k)) rest
+  pub ranks : b.ranks ≡ mapped_after (rank_of (placed_entries k)) before rest
   pub firsts : AreFirsts (placed_entries k) before (looked b.firsts)
   pub missing : IsMissing wanted before b.missing
   pub has_ended : b.has_ended ≡ list_any (λ x. ends_mit x.1) before

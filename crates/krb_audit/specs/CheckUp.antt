@@ -13,7 +13,7 @@ use Rattle.krb_findings.specs.declared.finding.Finding.{Finding}
 use Rattle.krb_findings.specs.declared.finding.Finding.TheVariants.{Mode, Missing, Empty}
 use Rattle.krb_findings.specs.declared.finding_set.FindingSet.{FindingSet}
 use Rattle.krb_findings.specs.declared.weak_etypes.WeakEtypes.{WeakEtypes}
-use Rattle.krb_audit.specs.Findings.{Marked, reported, weak_among}
+use Rattle.krb_audit.specs.Findings.{CheckAsked, Marked, reported, weak_among}
 use Rattle.krb_findings.specs.Table.{all_findings, has_some, joined, none, row_of, with_if, without}
 
 -- ---- the mode
@@ -64,7 +64,7 @@ counts_of k = record { entries = length (placed_entries k); free = sum_by size (
 abbrev pub is_empty : KeytabState → Bool
 is_empty k = length (placed_entries k) == 0 && is_none (fault_of (store_of k))
 
--- what a check finds in a keytab: its mode, the entries about which something is found, whether it is empty, the names that are missing, its fault, its counts, and its weak enctypes
+-- what a check finds in a keytab: its mode, the entries about which or about whose names something is found, whether it is empty, the names that are missing, its fault, its counts, and its weak enctypes
 pub record CheckParts : Type 0 where
   pub mode : Option ℕ
   pub entries : List Marked
@@ -74,13 +74,13 @@ pub record CheckParts : Type 0 where
   pub counts : Counts
   pub weak_etypes : WeakEtypes
 
--- what a check finds in a keytab, by the mode of its file, the time by which entries are aged, and the names that are wanted
-abbrev pub checked : Option ℕ → Option ℕ → List (List ℕ) → KeytabState → CheckParts
-checked mode aged_by wanted k = record {
+-- what a check finds in a keytab, by the mode of its file and what is asked
+abbrev pub checked : Option ℕ → CheckAsked → KeytabState → CheckParts
+checked mode asked k = record {
   mode = mode;
-  entries = reported aged_by k;
+  entries = reported asked k;
   is_empty = is_empty k;
-  missing = missing_among wanted (placed_entries k);
+  missing = missing_among asked.wanted (placed_entries k);
   fault = fault_of (store_of k);
   counts = counts_of k;
   weak_etypes = weak_among (placed_entries k);

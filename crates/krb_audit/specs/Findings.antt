@@ -1,17 +1,20 @@
 -- What is found about the entries of a keytab.
-use Rattle.std.specs.Prelude.{ℕ, List, [], ◌∷◌, ◌++◌, length, map, filter, find, Bool, false, not, ◌&&◌, ◌||◌, ◌==◌, nat_le, nat_lt, if◌then◌else◌, Option, None, Some, option_map, option_and_then}
+use Rattle.std.specs.Prelude.{ℕ, List, [], length, map, filter, find, Bool, false, not, ◌&&◌, ◌||◌, ◌==◌, nat_le, nat_lt, if◌then◌else◌, Option, None, Some, option_map, option_and_then}
 use Rattle.std.specs.List.{list_any, range_with_len}
 use Rattle.std.specs.Str.{bytes_eq}
+use Rattle.krb_wire.specs.Names.{name_text}
 use Rattle.krb_keytab.specs.Entry.{EntryParts}
 use Rattle.krb_keytab.specs.Find.{PlacedEntry, placed_entries}
 use Rattle.krb_keytab.specs.Store.{KeytabState}
 use Rattle.krb_text.specs.Etype.{is_key_size, is_weak}
 use Rattle.krb_findings.specs.declared.finding.Finding.{Finding}
-use Rattle.krb_findings.specs.declared.finding.Finding.TheVariants.{Weak, Hidden, Same, Clash, Old, Size, Aged}
+use Rattle.krb_findings.specs.declared.finding.Finding.TheVariants.{Weak, Hidden, Same, Clash, Old, Size, Aged, Nostrong, Unwanted}
 use Rattle.krb_audit.specs.declared.firsts.Alike.{Alike}
 use Rattle.krb_audit.specs.declared.marks.Marks.{Marks}
 use Rattle.krb_findings.specs.declared.weak_etypes.WeakEtypes.{WeakEtypes}
+use Rattle.krb_names.specs.Set.{is_among}
 use Rattle.krb_audit.specs.Newest.{is_old}
+use Rattle.krb_audit.specs.Ranks.{is_first, lacks_strong, mapped_after, newest_kvno}
 use Rattle.krb_findings.specs.Table.{has_some, set_of}
 use Rattle.krb_names.specs.Twins.{are_twins}
 
@@ -72,22 +75,35 @@ abbrev pub is_aged : Option ℕ → EntryParts → Bool
 is_aged None e = false
 is_aged (Some by) e = not (e.timestamp == 0) && nat_le e.timestamp by
 
--- a finding holds of an entry x of the keytab k, after the entries `before`
-abbrev pub is_found : Option ℕ → KeytabState → List PlacedEntry → PlacedEntry → Finding → Bool
-is_found aged_by k before x Weak = is_weak x.1.enctype
-is_found aged_by k before x Size = has_odd_size x.1
-is_found aged_by k before x Hidden = ends_mit x.1 && not (list_any (λ y. ends_mit y.1) before)
-is_found aged_by k before x Same = repeats (first_alike before x)
-is_found aged_by k before x Clash = clashes (first_alike before x)
-is_found aged_by k before x Old = is_old (placed_entries k) x.1
-is_found aged_by k before x Aged = not (is_old (placed_entries k) x.1) && is_aged aged_by x.1
-is_found aged_by k before x finding = false
+-- what a check is asked: the second by which entries are aged, the names that have to be there, as they are printed, and whether others are unwanted
+pub record CheckAsked : Type 0 where
+  pub aged_by : Option ℕ
+  pub wanted : List (List ℕ)
+  pub only : Bool
+
+-- a check is asked nothing
+abbrev pub nothing_asked : CheckAsked
+nothing_asked = record { aged_by = None; wanted = []; only = false }
+
+-- a finding holds of an entry x of the keytab k, after the entries `before`; what is found about a name holds of its first entry
+abbrev pub is_found : CheckAsked → KeytabState → List PlacedEntry → PlacedEntry → Finding → Bool
+is_found asked k before x Weak = is_weak x.1.enctype
+is_found asked k before x Size = has_odd_size x.1
+is_found asked k before x Hidden = ends_mit x.1 && not (list_any (λ y. ends_mit y.1) before)
+is_found asked k before x Same = repeats (first_alike before x)
+is_found asked k before x Clash = clashes (first_alike before x)
+is_found asked k before x Old = is_old (placed_entries k) x.1
+is_found asked k before x Aged = not (is_old (placed_entries k) x.1) && is_aged asked.aged_by x.1
+is_found asked k before x Nostrong = is_first before x && lacks_strong (placed_entries k) x.1.principal
+is_found asked k before x Unwanted = asked.only && (is_first before x && not (is_among asked.wanted (name_text x.1.principal)))
+is_found asked k before x finding = false
 
 -- what is found about an entry x of the keytab k, after the entries `before`
-abbrev pub marks_of : Option ℕ → KeytabState → List PlacedEntry → PlacedEntry → Marks
-marks_of aged_by k before x = record {
-  findings = set_of (is_found aged_by k before x);
+abbrev pub marks_of : CheckAsked → KeytabState → List PlacedEntry → PlacedEntry → Marks
+marks_of asked k before x = record {
+  findings = set_of (is_found asked k before x);
   first = option_map (λ first. first.place) (first_alike before x);
+  newest = newest_kvno x.1.principal (placed_entries k);
 }
 
 -- the place of the earlier entry that a finding is about: that of the same name, kvno and enctype
@@ -95,6 +111,11 @@ abbrev pub first_for : Marks → Finding → Option ℕ
 first_for marks Same = marks.first
 first_for marks Clash = marks.first
 first_for marks finding = None
+
+-- the newest kvno of a name, if a finding is that it lacks strong keys
+abbrev pub newest_for : Marks → Finding → Option ℕ
+newest_for marks Nostrong = Some marks.newest
+newest_for marks finding = None
 
 -- an enctype is weak, and one of the entries has it
 abbrev pub is_weak_among : List PlacedEntry → ℕ → Bool
@@ -108,11 +129,14 @@ weak_among xs = record { found = map (is_weak_among xs) (range_with_len 0 27) }
 abbrev pub Marked : Type 0
 Marked = PlacedEntry × Marks
 
--- entries with what is found about each, after the entries `before`
-abbrev pub marked_after : Option ℕ → KeytabState → List PlacedEntry → List PlacedEntry → List Marked
-marked_after aged_by k before [] = []
-marked_after aged_by k before (x ∷ xs) = (x, marks_of aged_by k before x) ∷ marked_after aged_by k (before ++ x ∷ []) xs
+-- the entries of a keytab, with what is found about each
+abbrev pub all_marked : CheckAsked → KeytabState → List Marked
+all_marked asked k = mapped_after (λ before x. (x, marks_of asked k before x)) [] (placed_entries k)
 
 -- the entries of a keytab about which something is found, with what that is
-abbrev pub reported : Option ℕ → KeytabState → List Marked
-reported aged_by k = filter (λ m. has_some m.1.findings) (marked_after aged_by k [] (placed_entries k))
+abbrev pub reported : CheckAsked → KeytabState → List Marked
+reported asked k = filter (λ m. has_some m.1.findings) (all_marked asked k)
+
+-- how many entries have a finding that nothing has to be asked for
+abbrev pub found_count : KeytabState → Finding → ℕ
+found_count k finding = length (filter (λ b. b) (mapped_after (λ before x. is_found nothing_asked k before x finding) [] (placed_entries k)))

@@ -1,11 +1,15 @@
 -- Laws of the definitions.
-use Rattle.std.specs.Prelude.{◌≡◌, ℕ, List, get_or, true, false, Some}
+use Rattle.std.specs.Prelude.{◌≡◌, ℕ, List, get_or, length, filter, true, false, Option, Some}
 use Rattle.std.specs.List.{Contains}
 use Rattle.krb_wire.specs.Spelling.{Parts}
 use Rattle.krb_wire.specs.Names.{have_same_name}
 use Rattle.krb_keytab.specs.Entry.{EntryParts}
 use Rattle.krb_keytab.specs.Find.{PlacedEntry}
-use Rattle.krb_audit.specs.Findings.{is_weak_among, weak_among}
+use Rattle.krb_keytab.specs.Store.{KeytabState}
+use Rattle.krb_findings.specs.declared.finding.Finding.{Finding}
+use Rattle.krb_findings.specs.Table.{has}
+use Rattle.krb_audit.specs.CheckUp.{checked}
+use Rattle.krb_audit.specs.Findings.{CheckAsked, found_count, is_weak_among, weak_among}
 use Rattle.krb_audit.specs.Newest.{newest, is_old}
 
 -- the entry is one of the entries, at some place, and has that name
@@ -23,3 +27,7 @@ KeepsEachName = (xs : List PlacedEntry) (x : PlacedEntry) → Contains xs x → 
 -- of any number it is found whether it is a weak enctype that one of the entries has
 abbrev pub AreAllWeak : Type 0
 AreAllWeak = (xs : List PlacedEntry) (etype : ℕ) → get_or (weak_among xs).found etype false ≡ is_weak_among xs etype
+
+-- the entries of which a check has a finding are as many as have it
+abbrev pub CountsFindings : Finding → Type 0
+CountsFindings finding = (mode : Option ℕ) (asked : CheckAsked) (k : KeytabState) → length (filter (λ m. has m.1.findings finding) (checked mode asked k).entries) ≡ found_count k finding

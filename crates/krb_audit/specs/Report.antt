@@ -1,16 +1,17 @@
 -- The lines that report what a check of a keytab finds.
 use Rattle.std.specs.Prelude.{ℕ, zero, suc, ◌/◌, ◌%◌, ◌+◌, List, [], ◌∷◌, ◌++◌, codes, decimal, Bool, not, ◌&&◌, ◌==◌, if◌then◌else◌, Option, None, Some}
 use Rattle.std.specs.List.{flat_map}
+use Rattle.krb_wire.specs.Names.{name_text}
 use Rattle.krb_walk.specs.declared.fault.Fault.{Fault}
 use Rattle.krb_keytab.specs.Find.{PlacedEntry}
 use Rattle.krb_keytab_text.specs.Listing.{placed_line}
 use Rattle.krb_text.specs.FaultLine.{fault_line}
 use Rattle.krb_audit.specs.declared.counts.Counts.{Counts}
-use Rattle.krb_findings.specs.declared.finding.Finding.TheVariants.{Mode, Missing, Empty}
+use Rattle.krb_findings.specs.declared.finding.Finding.TheVariants.{Mode, Missing, Empty, Nostrong, Unwanted}
 use Rattle.krb_findings.specs.declared.finding.Finding.{Finding}
 use Rattle.krb_findings.specs.declared.finding_set.FindingSet.{FindingSet}
 use Rattle.krb_audit.specs.CheckUp.{CheckParts, is_open}
-use Rattle.krb_audit.specs.Findings.{Marked, first_for}
+use Rattle.krb_audit.specs.Findings.{Marked, first_for, newest_for}
 use Rattle.krb_findings.specs.Table.{findings_about_entries, has, row_of}
 
 -- a number in octal without leading zeros, at most its last `places` digits
@@ -42,6 +43,17 @@ finding_line label left_out m finding = if has m.1.findings finding && not (has 
 abbrev pub finding_lines : List ℕ → FindingSet → Marked → List ℕ
 finding_lines label left_out m = flat_map (finding_line label left_out m) findings_about_entries
 
+-- the newest kvno in the line of a name, if it is given
+abbrev pub kvno_rest : Option ℕ → List ℕ
+kvno_rest None = []
+kvno_rest (Some kvno) = codes " kvno " ++ decimal kvno
+
+-- the line of a finding about the name of an entry, if the finding holds and is not left out
+abbrev pub name_line : List ℕ → FindingSet → Finding → Marked → List ℕ
+name_line label left_out finding m =
+    if has m.1.findings finding && not (has left_out finding)
+    then label ++ ((row_of finding).word ++ (kvno_rest (newest_for m.1 finding) ++ (codes " " ++ (name_text m.0.1.principal ++ codes "\n")))) else []
+
 -- the line of a keytab without an entry
 abbrev pub empty_line : List ℕ → FindingSet → Bool → List ℕ
 empty_line label left_out is_empty = if is_empty && not (has left_out Empty) then label ++ ((row_of Empty).word ++ codes "\n") else []
@@ -69,4 +81,7 @@ abbrev pub report : List ℕ → FindingSet → CheckParts → List ℕ
 report label left_out c =
     mode_line label left_out c.mode
     ++ (flat_map (finding_lines label left_out) c.entries
-    ++ (empty_line label left_out c.is_empty ++ (missing_lines label left_out c.missing ++ (labelled_fault label c.fault ++ count_line label c.counts))))
+    ++ (flat_map (name_line label left_out Nostrong) c.entries
+    ++ (empty_line label left_out c.is_empty
+    ++ (missing_lines label left_out c.missing
+    ++ (flat_map (name_line label left_out Unwanted) c.entries ++ (labelled_fault label c.fault ++ count_line label c.counts))))))

@@ -1,5 +1,5 @@
 -- The entries of a keytab with their names numbered.
-use Rattle.std.specs.Prelude.{◌≡◌, ℕ, List, [], ◌++◌, map, Option, Some, option_map}
+use Rattle.std.specs.Prelude.{◌≡◌, ℕ, List, [], ◌++◌, map, Bool, Option, Some, option_map}
 use Rattle.std.specs.List.{position_from}
 use Rattle.krb_wire.specs.Spelling.{Parts, FitsKt}
 use Rattle.krb_wire.specs.Names.{have_same_name}
@@ -8,6 +8,7 @@ use Rattle.krb_names.specs.Hash.{HashedName, hash_of}
 use Rattle.krb_names.specs.Numbers.{AreNumbers}
 use Rattle.krb_keytab.specs.Entry.{EntryParts}
 use Rattle.krb_keytab.specs.Find.{PlacedEntry}
+use Rattle.krb_text.specs.Etype.{is_weak}
 use Rattle.krb_audit.specs.declared.rows.Names.{Names}
 use Rattle.krb_audit.specs.declared.rows.Row.{Row}
 use Rattle.krb_audit.specs.declared.newest.Stamp.{Stamp}
@@ -35,12 +36,12 @@ abbrev pub first_number : Parts → List PlacedEntry → Option ℕ
 first_number name xs = position_from (λ x. have_same_name name x.1.principal) 0 xs
 
 -- what a row has
-abbrev pub shown : Row → Option ℕ × Stamp
-shown r = (Some r.first, r.stamp)
+abbrev pub shown : Row → Option ℕ × Stamp × Bool
+shown r = (Some r.first, r.stamp, r.is_weak)
 
--- what the row of an entry has: the number of the first entry of its name among all, and its stamp
-abbrev pub row_in : List PlacedEntry → PlacedEntry → Option ℕ × Stamp
-row_in all x = (first_number x.1.principal all, stamp_of x.1)
+-- what the row of an entry has: the number of the first entry of its name among all, its stamp, and whether its enctype is weak
+abbrev pub row_in : List PlacedEntry → PlacedEntry → Option ℕ × Stamp × Bool
+row_in all x = (first_number x.1.principal all, stamp_of x.1, is_weak x.1.enctype)
 
 -- the rows are those of these entries
 abbrev pub AreRows : List PlacedEntry → List PlacedEntry → List Row → Type 0

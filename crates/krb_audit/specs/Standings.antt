@@ -1,5 +1,7 @@
--- How the entries of a keytab compare to those of their names, from their rows.
-use Rattle.std.specs.Prelude.{◌≡◌, ℕ, ◌/◌, ◌%◌, List, get_or, Bool, false, true, not, ◌&&◌, ◌==◌, Option, Some, None, option_map}
+-- How entries rank, and which kvnos are selected, from the rows of entries.
+use Rattle.std.specs.Prelude.{◌≡◌, ℕ, ◌+◌, List, [], ◌∷◌, get_or, Bool, false, true, not, ◌&&◌, ◌==◌, Option, Some, None, option_map}
+use Rattle.std.specs.List.{list_any}
+use Rattle.std.specs.Option.{option_map_or}
 use Rattle.krb_wire.specs.Spelling.{Parts}
 use Rattle.krb_keytab.specs.Find.{PlacedEntry}
 use Rattle.krb_audit.specs.declared.rows.Row.{Row}
@@ -7,8 +9,9 @@ use Rattle.krb_audit.specs.declared.selection.SelectedKvno.{SelectedKvno}
 use Rattle.krb_audit.specs.declared.selection.SelectedKvno.TheVariants.{Any, Exactly, Newest, Old}
 use Rattle.krb_audit.specs.declared.newest.Stamp.{Stamp}
 use Rattle.krb_audit.specs.Newest.{has_other_version}
+use Rattle.krb_audit.specs.Ranks.{RankParts, is_strong_of}
 use Rattle.krb_audit.specs.Rows.{first_number, newest_stamp, stamped}
-use Rattle.krb_audit.specs.Selection.{has_selected_kvno, has_young, is_young}
+use Rattle.krb_audit.specs.Selection.{has_young, is_young}
 
 -- the stamps are those of the newest entries
 abbrev pub AreNewest : List PlacedEntry → List (Option Stamp) → Type 0
@@ -34,14 +37,27 @@ selects_row (Exactly version) newest young r = r.stamp.kvno == version
 selects_row Newest newest young r = not (is_old_row newest r)
 selects_row (Old age) newest young r = not (get_or young r.first false) && is_old_row newest r
 
--- what the standing of a row has: its number, and whether its entry has a selected kvno
-abbrev pub standing_row : SelectedKvno → List (Option Stamp) → List Bool → Row → Option ℕ × Bool
-standing_row kvno newest young r = (Some r.first, selects_row kvno newest young r)
+-- ---- ranks
 
--- what a standing has, which is stored as twice the number, and 1 if the kvno is selected
-abbrev pub shown_standing : ℕ → Option ℕ × Bool
-shown_standing s = (Some (s / 2), s % 2 == 1)
+-- what is read of each row and its number, from a number on
+abbrev pub numbered_rows : {X : Type 0} → (ℕ → Row → X) → ℕ → List Row → List X
+numbered_rows read n [] = []
+numbered_rows read n (r ∷ rs) = read n r ∷ numbered_rows read (n + 1) rs
 
--- the standing of an entry among all: the number of the first entry of its name, and whether its kvno is selected
-abbrev pub standing : SelectedKvno → ℕ → List PlacedEntry → PlacedEntry → Option ℕ × Bool
-standing kvno now all x = (first_number x.1.principal all, has_selected_kvno kvno now all x.1)
+-- a row is that of an entry of its name's newest kvno which has a strong enctype
+abbrev pub is_strong_row : List (Option Stamp) → Row → Bool
+is_strong_row newest r = not r.is_weak && not (is_old_row newest r)
+
+-- each mark says whether a name has such an entry
+abbrev pub AreStrong : List PlacedEntry → List Bool → Type 0
+AreStrong xs strong = (p : Parts) (i : ℕ) → first_number p xs ≡ Some i → get_or strong i false ≡ list_any (is_strong_of xs p) xs
+
+-- how the entry of a numbered row ranks, by those stamps and marks
+abbrev pub rank_row : List (Option Stamp) → List Bool → ℕ → Row → RankParts
+rank_row newest strong n r = record {
+  first = Some r.first;
+  newest = option_map_or (λ s. s.kvno) (get_or newest r.first None) 0;
+  is_first = r.first == n;
+  is_old = is_old_row newest r;
+  lacks_strong = not (get_or strong r.first false);
+}

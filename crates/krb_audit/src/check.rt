@@ -1,7 +1,6 @@
 //! Checks a keytab for what an administrator should know.
 
 ghost use Rattle.std.specs.Prelude.{◌≡◌, IfOk, map};
-ghost use Rattle.std.specs.Vec.{vec_items};
 ghost use Rattle.krb_audit.specs.CheckUp.{about_entries, checked, counts_at, findings_of, is_empty, is_wrong, uncounted};
 
 use crate::counts::{Counts, counts_of};
@@ -13,6 +12,27 @@ use krb_walk::Fault;
 use krb_wire::NoMemory;
 use std::alloc::Allocator;
 use std::marker::Model;
+
+/// What a check is asked for.
+#[derive(Drop)]
+pub struct CheckCriteria<'k, B: Allocator> {
+    /// An entry that is not old is aged if it has a time, at or before that second.
+    pub aged_by: Option<u32>,
+    /// The names that have to be there, as they are printed.
+    pub wanted: &'k [Vec<u8, B>],
+    /// Names that are not wanted are found.
+    pub only: bool,
+}
+
+impl<'k, B: Allocator> Model for CheckCriteria<'k, B> {
+    ghost use Rattle.std.specs.Prelude.{map};
+    ghost use Rattle.std.specs.Vec.{vec_items};
+    ghost use Rattle.krb_audit.specs.Findings.{CheckAsked};
+
+    ghost Value = { CheckAsked };
+
+    ghost view = { λ c. record { aged_by = c.aged_by; wanted = map vec_items c.wanted.now; only = c.only } };
+}
 
 /// What a check of a keytab found.
 #[derive(Drop)]
@@ -75,7 +95,7 @@ impl<'k, A: Allocator> CheckUp<'k, A> {
         self.mode
     }
 
-    /// Returns the entries about which something is found, with that, in file order.
+    /// Returns the entries about which, or about whose names, something is found, with that, in file order.
     pub fn entries(&self) -> &[Marked<'k>]
         ensures { result.now ≡ self.now.entries }
     {
@@ -150,18 +170,17 @@ fn about_entries(entries: &[Marked<'_>]) -> FindingSet
     findings
 }
 
-/// Checks a keytab and, if it is given, the `mode` of its plain file. An entry is aged by the second `aged_by`, if that
-/// is given, and the names `wanted` have to be there, as they are printed. Takes time n log n in the bytes of both.
+/// Checks a keytab and, if it is given, the `mode` of its plain file. Takes time n log n in the bytes of the keytab and of
+/// the wanted names.
 pub fn check_up<'k, A: Allocator + Copy, B: Allocator, C: Allocator>(
     alloc: A,
     mode: Option<u32>,
-    aged_by: Option<u32>,
-    wanted: &'k [Vec<u8, B>],
+    asked: &CheckCriteria<'k, B>,
     keytab: &'k Keytab<C>,
 ) -> Result<CheckUp<'k, A>, NoMemory>
-    ensures { IfOk result (λ found. found ≡ checked mode aged_by (map vec_items wanted.now) keytab.now.state) }
+    ensures { IfOk result (λ found. found ≡ checked mode asked.now keytab.now.state) }
 {
-    let pass = check_entries(alloc, aged_by, wanted, keytab)?;
+    let pass = check_entries(alloc, asked, keytab)?;
     let fault = keytab.fault();
     let is_empty = pass.count == 0 && fault.is_none();
     let findings = about_entries(&pass.entries)

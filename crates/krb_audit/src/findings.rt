@@ -1,21 +1,19 @@
 //! What is found about the entries of a keytab.
 
-ghost use Rattle.std.specs.Prelude.{◌≡◌, ◌∷◌, ◌++◌, ◌&&◌, [], List, ℕ, length, map, not, None, option_map, IfOk};
-ghost use Rattle.std.specs.Vec.{vec_items};
+ghost use Rattle.std.specs.Prelude.{◌≡◌, ◌∷◌, ◌++◌, ◌&&◌, [], List, ℕ, length, map, not, option_map, IfOk};
 ghost use Rattle.krb_keytab.specs.Find.{PlacedEntry, placed_entries};
 ghost use Rattle.krb_keytab.specs.Store.{KeytabState};
 ghost use Rattle.krb_audit.specs.Before.{IsBefore, IsMissing};
 ghost use Rattle.krb_audit.specs.CheckUp.{missing_among};
 ghost use Rattle.krb_audit.specs.Findings.{clashes, has_odd_size, is_aged, marks_of, repeats, reported, weak_among};
-ghost use Rattle.krb_audit.specs.declared.selection.SelectedKvno.TheVariants.{Old};
-ghost use Rattle.krb_audit.specs.Standings.{standing};
+ghost use Rattle.krb_audit.specs.Ranks.{mapped_after, rank_of};
 
+use crate::check::CheckCriteria;
 use crate::firsts::{Alike, Firsts};
 use crate::marks::Marks;
 use crate::missing::Missing;
 use crate::mit::ends_mit;
-use crate::selection::SelectedKvno;
-use crate::standings::Standings;
+use crate::ranks::Ranks;
 use crate::weak_etypes::{add_weak, no_weak};
 use krb_findings::{Finding, FindingSet, WeakEtypes};
 use krb_keytab::{EntryView, Keytab};
@@ -27,8 +25,7 @@ use std::cmp::Reverse;
 /// What is known before an entry is checked.
 #[derive(Drop)]
 struct Before<'a, A: Allocator> {
-    // Old entries are selected.
-    standings: Standings<A>,
+    ranks: Ranks<A>,
     firsts: Firsts<'a, A>,
     missing: Missing<'a, A>,
     /// True if MIT's programs stop before one of the entries so far.
@@ -79,13 +76,13 @@ fn place_of(alike: Option<Alike>) -> Option<u32>
 
 impl<'a, A: Allocator + Copy> Before<'a, A> {
     // Returns what is known before the first entry of a keytab.
-    fn first(alloc: A, standings: Standings<A>, missing: Missing<'a, A>) -> Before<'a, A>
-        ensures { (k : KeytabState) (wanted : List (List ℕ)) → standings ≡ map (standing (Old None) 0 (placed_entries k)) (placed_entries k)
+    fn first(alloc: A, ranks: Ranks<A>, missing: Missing<'a, A>) -> Before<'a, A>
+        ensures { (k : KeytabState) (wanted : List (List ℕ)) → ranks ≡ mapped_after (rank_of (placed_entries k)) [] (placed_entries k)
             → IsMissing wanted [] missing.entry
             → IsBefore k wanted [] (placed_entries k) result }
     {
         Before {
-            standings,
+            ranks,
             firsts: Firsts::new(alloc),
             missing,
             has_ended: false,
@@ -94,24 +91,24 @@ impl<'a, A: Allocator + Copy> Before<'a, A> {
     }
 
     // Returns what is found about the next entry, and adds the entry to those before the next.
-    fn marks(
+    fn marks<B: Allocator>(
         &mut self,
-        aged_by: Option<u32>,
+        asked: &CheckCriteria<'_, B>,
         place: u32,
         entry: &EntryView<'a>,
     ) -> Result<Marks, NoMemory>
-        ensures { (k : KeytabState) (wanted : List (List ℕ)) (before rest : List PlacedEntry)
-            → IsBefore k wanted before ((place, entry.now) ∷ rest) self.old
-            → IfOk result (λ marks. (marks ≡ marks_of aged_by k before (place, entry.now))
-            × IsBefore k wanted (before ++ (place, entry.now) ∷ []) rest self.new) }
+        ensures { (k : KeytabState) (before rest : List PlacedEntry)
+            → IsBefore k asked.now.wanted before ((place, entry.now) ∷ rest) self.old
+            → IfOk result (λ marks. (marks ≡ marks_of asked.now k before (place, entry.now))
+            × IsBefore k asked.now.wanted (before ++ (place, entry.now) ∷ []) rest self.new) }
     {
         let kvno = entry.kvno();
         let etype = entry.enctype();
         let ends = ends_mit(entry);
         let hidden = ends & !self.has_ended;
-        let (first, old) = self.standings.take();
-        self.missing.mark_next(entry)?;
-        let key = (Reverse(first), kvno, etype);
+        let rank = self.ranks.take();
+        let is_wanted = self.missing.mark_next(entry)?;
+        let key = (Reverse(rank.first), kvno, etype);
         let alike = self.firsts.consider(key, place, entry.key())?;
         self.has_ended |= ends;
         add_weak(&mut self.weak_etypes, etype);
@@ -122,9 +119,12 @@ impl<'a, A: Allocator + Copy> Before<'a, A> {
                 .with_if(hidden, Finding::Hidden)
                 .with_if(repeats(alike), Finding::Same)
                 .with_if(clashes(alike), Finding::Clash)
-                .with_if(old, Finding::Old)
-                .with_if(is_aged(aged_by, old, entry), Finding::Aged),
+                .with_if(rank.is_old, Finding::Old)
+                .with_if(is_aged(asked.aged_by, rank.is_old, entry), Finding::Aged)
+                .with_if(rank.is_first & rank.lacks_strong, Finding::Nostrong)
+                .with_if(asked.only & (rank.is_first & !is_wanted), Finding::Unwanted),
             first: place_of(alike),
+            newest: rank.newest,
         })
     }
 }
@@ -135,7 +135,7 @@ pub type Marked<'k> = ((u32, EntryView<'k>), Marks);
 /// What a pass over the entries of a keytab came to.
 #[derive(Drop)]
 pub(crate) struct Pass<'k, A: Allocator> {
-    /// The entries about which something is found.
+    /// The entries about which, or about whose names, something is found.
     pub entries: Vec<Marked<'k>, A>,
     /// The names that are missing.
     pub missing: Vec<&'k [u8], A>,
@@ -147,31 +147,30 @@ pub(crate) struct Pass<'k, A: Allocator> {
 /// Returns what is found about the entries of a keytab.
 pub(crate) fn check_entries<'k, A: Allocator + Copy, B: Allocator, C: Allocator>(
     alloc: A,
-    aged_by: Option<u32>,
-    wanted: &'k [Vec<u8, B>],
+    asked: &CheckCriteria<'k, B>,
     keytab: &'k Keytab<C>,
 ) -> Result<Pass<'k, A>, NoMemory>
-    ensures entries { IfOk result (λ pass. pass.entries.items ≡ reported aged_by keytab.now.state) }
+    ensures entries { IfOk result (λ pass. pass.entries.items ≡ reported asked.now keytab.now.state) }
     ensures missing { IfOk result (λ pass. map (λ t. t.now) pass.missing.items
-        ≡ missing_among (map vec_items wanted.now) (placed_entries keytab.now.state)) }
+        ≡ missing_among asked.now.wanted (placed_entries keytab.now.state)) }
     ensures weak_etypes { IfOk result (λ pass. pass.weak_etypes ≡ weak_among (placed_entries keytab.now.state)) }
     ensures count { IfOk result (λ pass. pass.count ≡ length (placed_entries keytab.now.state)) }
 {
-    let standings = Standings::of(alloc, keytab, SelectedKvno::Old(None), 0)?;
+    let ranks = Ranks::of(alloc, keytab)?;
     // Bounds the number of entries, so that it fits.
     let _few = keytab.cell_count();
-    let count = standings.len() as u32;
-    let names = Missing::new(alloc, wanted)?;
-    let mut before = Before::first(alloc, standings, names);
+    let count = ranks.len() as u32;
+    let names = Missing::new(alloc, asked.wanted)?;
+    let mut before = Before::first(alloc, ranks, names);
     let mut entries = Vec::new(alloc);
     'entries: for (place, entry) in keytab.entries() {
-        let marks = before.marks(aged_by, place, &entry)?;
+        let marks = before.marks(asked, place, &entry)?;
         if marks.findings.has_some() {
             entries.push(((place, entry), marks))?;
         }
     }
     let weak_etypes = before.weak_etypes;
-    let missing = before.missing.texts(alloc, wanted)?;
+    let missing = before.missing.texts(alloc, asked.wanted)?;
     Ok(Pass {
         entries,
         missing,

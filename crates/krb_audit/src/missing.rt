@@ -15,22 +15,24 @@ use krb_names::NameMarks;
 use krb_wire::{NoMemory, PrincipalView, write_name};
 use std::alloc::Allocator;
 
-// Marks the text as which a name prints. Prints it over `printed`, if there are any.
+// Marks the text as which a name prints, and returns whether it is one of them. Prints it over `printed`, if there are
+// any.
 fn mark<A: Allocator>(
     name: &PrincipalView<'_>,
     printed: &mut Vec<u8, A>,
     wanted: &mut NameMarks<'_, A>,
-) -> Result<(), NoMemory>
+) -> Result<bool, NoMemory>
     ensures { (names : List (List ℕ)) (marked : List ℕ → Bool) → AreMarked marked names wanted.old
-        → OnOk result (AreMarked (λ text. marked text || bytes_eq (name_text name.now) text) names wanted.new) }
+        → IfOk result (λ is_wanted. (is_wanted ≡ is_among names (name_text name.now))
+        × AreMarked (λ text. marked text || bytes_eq (name_text name.now) text) names wanted.new) }
 {
     if wanted.is_empty() {
-        return Ok(());
+        return Ok(false);
     }
     printed.clear();
     write_name(name, printed)?;
     wanted.mark(printed);
-    Ok(())
+    Ok(wanted.is_marked(printed))
 }
 
 // Adds a text that is not marked, and marks it.
@@ -71,10 +73,11 @@ impl<'w, A: Allocator + Copy> Missing<'w, A> {
         })
     }
 
-    /// Marks the text as which the next entry's name prints.
-    pub fn mark_next(&mut self, entry: &EntryView<'_>) -> Result<(), NoMemory>
+    /// Marks the text as which the next entry's name prints, and returns whether it is one of them.
+    pub fn mark_next(&mut self, entry: &EntryView<'_>) -> Result<bool, NoMemory>
         ensures { (wanted : List (List ℕ)) (before : List PlacedEntry) (place : ℕ) → IsMissing wanted before self.old
-            → OnOk result (IsMissing wanted (before ++ (place, entry.now) ∷ []) self.new) }
+            → IfOk result (λ is_wanted. (is_wanted ≡ is_among wanted (name_text entry.now.principal))
+            × IsMissing wanted (before ++ (place, entry.now) ∷ []) self.new) }
     {
         mark(entry.principal(), &mut self.printed, &mut self.wanted)
     }

@@ -23,7 +23,7 @@ pub fn is_open_file(mode: Option<u32>) -> bool
 }
 
 /// Returns whether others may read or write the plain file.
-pub(crate) fn is_open_to_all(mode: Option<u32>) -> bool
+pub fn is_open_to_all(mode: Option<u32>) -> bool
     ensures { result ≡ has_mode is_open_to_all mode }
 {
     mode.is_some_and(|mode| mode & 0o6 != 0)

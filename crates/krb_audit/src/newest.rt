@@ -1,6 +1,6 @@
 //! The newest entry of each name, and which of two entries of a name is the newer one.
 
-ghost use Rattle.std.specs.Prelude.{◌≡◌, List, IfOk};
+ghost use Rattle.std.specs.Prelude.{◌≡◌, List, IfOk, None, get_or};
 ghost use Rattle.krb_keytab.specs.Find.{PlacedEntry};
 ghost use Rattle.krb_audit.specs.Rows.{AreRows, newer_stamp, stamp_of, stamped};
 ghost use Rattle.krb_audit.specs.Standings.{AreNewest, is_old_row};
@@ -61,9 +61,9 @@ fn newer(newest: Option<Stamp>, later: Stamp) -> Option<Stamp>
     }
 }
 
-/// Keeps the stamp of each name's newest entry.
+// Keeps the stamp of each name's newest entry.
 #[derive(Clone, Copy)]
-pub struct NewestStamp;
+struct NewestStamp;
 
 impl Kept for NewestStamp {
     ghost use Rattle.krb_audit.specs.Rows.{newer_stamp};
@@ -88,10 +88,16 @@ pub fn newest_stamps<A: Allocator + Copy>(
     by_name(alloc, rows, None, &NewestStamp)
 }
 
+/// Returns the stamp of the newest entry of a row's name.
+pub fn newest_of(newest: &[Option<Stamp>], row: Row) -> Option<Stamp>
+    ensures { result ≡ get_or newest.now row.first None }
+{
+    newest.get(row.first as usize).copied().unwrap_or(None)
+}
+
 /// Returns whether the entry of a row is old.
 pub fn is_old(newest: &[Option<Stamp>], row: Row) -> bool
     ensures { result ≡ is_old_row newest.now row }
 {
-    let newest = newest.get(row.first as usize).copied().unwrap_or(None);
-    newest.is_some_and(|newest| row.stamp.kvno != newest.kvno)
+    newest_of(newest, row).is_some_and(|newest| row.stamp.kvno != newest.kvno)
 }

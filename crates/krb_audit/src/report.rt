@@ -2,7 +2,7 @@
 
 ghost use Rattle.std.specs.Prelude.{◌≡◌, ◌++◌, OnOk, map};
 ghost use Rattle.std.specs.List.{flat_map};
-ghost use Rattle.krb_audit.specs.Report.{count_line, empty_line, finding_line, finding_lines, labelled_fault, missing_line, missing_lines, mode_line, placed_rest, report};
+ghost use Rattle.krb_audit.specs.Report.{count_line, empty_line, finding_line, finding_lines, kvno_rest, labelled_fault, missing_line, missing_lines, mode_line, name_line, placed_rest, report};
 ghost use Rattle.krb_findings.specs.Table.{row_of};
 
 use crate::check::CheckUp;
@@ -14,7 +14,7 @@ use krb_keytab::EntryView;
 use krb_keytab_text::append_placed;
 use krb_text::{append, append_byte, append_fault_line, append_labelled};
 use krb_walk::Fault;
-use krb_wire::NoMemory;
+use krb_wire::{NoMemory, write_name};
 use std::alloc::Allocator;
 
 fn append_word<A: Allocator>(
@@ -110,6 +110,52 @@ fn append_entries<A: Allocator>(
     Ok(())
 }
 
+fn append_kvno<A: Allocator>(kvno: Option<u32>, out: &mut Vec<u8, A>) -> Result<(), NoMemory>
+    ensures { OnOk result (out.new.items ≡ out.old.items ++ kvno_rest kvno) }
+{
+    match kvno {
+        Some(kvno) => append_labelled(b" kvno ", kvno, out),
+        None => Ok(()),
+    }
+}
+
+// Appends the line of a finding, if it is found about the name of the entry and not left out.
+fn append_name_finding<A: Allocator>(
+    label: &[u8],
+    left_out: FindingSet,
+    finding: Finding,
+    marked: &Marked<'_>,
+    out: &mut Vec<u8, A>,
+) -> Result<(), NoMemory>
+    ensures { OnOk result (out.new.items ≡ out.old.items ++ name_line label.now left_out finding marked.now) }
+{
+    let ((_, entry), marks) = marked;
+    if !marks.findings.has(finding) || left_out.has(finding) {
+        return Ok(());
+    }
+    append_word(label, finding, out)?;
+    append_kvno(marks.newest_for(finding), out)?;
+    append_byte(b' ', out)?;
+    write_name(entry.principal(), out)?;
+    append_byte(b'\n', out)
+}
+
+fn append_names<A: Allocator>(
+    label: &[u8],
+    left_out: FindingSet,
+    finding: Finding,
+    entries: &[Marked<'_>],
+    out: &mut Vec<u8, A>,
+) -> Result<(), NoMemory>
+    ensures { OnOk result (out.new.items
+        ≡ out.old.items ++ flat_map (name_line label.now left_out finding) entries.now) }
+{
+    'entries: for marked in entries {
+        append_name_finding(label, left_out, finding, marked, out)?;
+    }
+    Ok(())
+}
+
 fn append_empty<A: Allocator>(
     label: &[u8],
     left_out: FindingSet,
@@ -196,8 +242,10 @@ pub fn append_report<A: Allocator, B: Allocator>(
 {
     append_mode(label, left_out, found.mode(), out)?;
     append_entries(label, left_out, found.entries(), out)?;
+    append_names(label, left_out, Finding::Nostrong, found.entries(), out)?;
     append_empty(label, left_out, found.is_empty(), out)?;
     append_missing(label, left_out, found.missing(), out)?;
+    append_names(label, left_out, Finding::Unwanted, found.entries(), out)?;
     append_fault(label, found.fault(), out)?;
     append_counts(label, found.counts(), out)
 }

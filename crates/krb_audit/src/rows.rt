@@ -11,15 +11,18 @@ ghost use Rattle.krb_audit.specs.Rows.{AreNumbered, AreRows};
 use crate::newest::Stamp;
 use krb_keytab::{EntryView, Keytab, KtCell, read_entry};
 use krb_names::{hash_of, number_of};
+use krb_text::is_weak;
 use krb_wire::{KtFormat, NoMemory, split_kt_principal};
 use std::alloc::Allocator;
 use std::collections::BTreeMap;
 
-/// An entry: the number of the first entry of its name, and its stamp. Entries are numbered from 0 in file order.
+/// An entry: the number of the first entry of its name, its stamp, and whether its encryption type is weak. Entries are
+/// numbered from 0 in file order.
 #[derive(Clone, Copy, Debug)]
 pub struct Row {
     pub first: u32,
     pub stamp: Stamp,
+    pub is_weak: bool,
 }
 
 // Returns the size of a name type in bytes: 0 if the format has none.
@@ -65,7 +68,12 @@ impl<'a, A: Allocator + Copy> Names<'a, A> {
         let hash = hash_of(name);
         let first = number_of(&mut self.numbers, (hash, name), next)?;
         let stamp = Stamp::of(&entry);
-        self.rows.push(Row { first, stamp })?;
+        let is_weak = is_weak(entry.enctype());
+        self.rows.push(Row {
+            first,
+            stamp,
+            is_weak,
+        })?;
         Ok(())
     }
 }

@@ -71,10 +71,10 @@ remove_head = codes "krbfile: to see what would go: krbfile ktremove"
 abbrev pub remove_command : Order → List ℕ
 remove_command order = remove_head ++ (order_flag order ++ codes " -n")
 
--- the hint for weak enctypes, if that word is explained
+-- the hint for weak enctypes, if that word is explained and each name has other keys
 abbrev pub weak_hint : Findings → List ℕ → List ℕ
 weak_hint findings operand =
-    line_if (has findings.words Weak)
+    line_if (has findings.words Weak && not findings.lacks_strong)
     (remove_command findings.v1_order ++ (flat_map (etype_option findings.weak_etypes.found) (range_with_len 0 27) ++ (codes " " ++ (operand ++ codes "\n"))))
 
 -- the hints for a file that is this operand

@@ -70,6 +70,9 @@ does_not_go_with option other = Shown [] option (codes " does not go with ") oth
 abbrev pub for_keytabs : List ℕ → MistakeParts
 for_keytabs option = Shown [] option (codes " is for keytabs; give -k") [] []
 
+abbrev pub goes_with : List ℕ → List ℕ → MistakeParts
+goes_with option other = Shown [] option (codes " goes with ") other []
+
 abbrev pub only_with : List ℕ → List ℕ → MistakeParts
 only_with option other = Shown [] option (codes " goes with ") other (codes " alone")
 

@@ -17,12 +17,13 @@ pub enum FileKind {
     Either,
 }
 
-/// What was found about a keytab: which findings are to be explained, which weak enctypes its entries have, the fault,
-/// whether something is wrong, and in which order a keytab of version 1 was read.
+/// What was found about a keytab: which findings are to be explained, which weak enctypes its entries have, whether a
+/// name has no other keys, the fault, whether something is wrong, and in which order a keytab of version 1 was read.
 #[derive(Clone, Copy)]
 pub struct Findings {
     pub words: FindingSet,
     pub weak_etypes: WeakEtypes,
+    pub lacks_strong: bool,
     pub fault: Option<Fault>,
     pub is_wrong: bool,
     pub v1_order: Order,

@@ -19,6 +19,8 @@ pub enum Finding {
     Aged,
     Missing,
     Empty,
+    Nostrong,
+    Unwanted,
     User,
     Unread,
     Name,
@@ -27,7 +29,7 @@ pub enum Finding {
 }
 
 /// The findings of a check, in the order in which words explain them.
-pub const FINDINGS: [Finding; 10] = [
+pub const FINDINGS: [Finding; 12] = [
     Finding::Weak,
     Finding::Hidden,
     Finding::Same,
@@ -38,6 +40,8 @@ pub const FINDINGS: [Finding; 10] = [
     Finding::Aged,
     Finding::Missing,
     Finding::Empty,
+    Finding::Nostrong,
+    Finding::Unwanted,
 ];
 
 /// What is said of tickets, in the order in which words explain it.
@@ -59,6 +63,9 @@ pub const ABOUT_ENTRIES: [Finding; 7] = [
     Finding::Old,
     Finding::Aged,
 ];
+
+/// The findings about a name, in the order of their lines. They are found at its first entry.
+pub const ABOUT_NAMES: [Finding; 2] = [Finding::Nostrong, Finding::Unwanted];
 
 /// What is said of a finding.
 #[derive(Clone, Copy, Debug)]
@@ -112,6 +119,12 @@ impl Finding {
             Finding::Aged => row("aged", "a key that is older than was asked", true),
             Finding::Missing => row("missing", "no entry of a name that was asked for", true),
             Finding::Empty => row("empty", "a keytab without an entry", true),
+            Finding::Nostrong => row(
+                "nostrong",
+                "a name whose newest version has only weak keys",
+                true,
+            ),
+            Finding::Unwanted => row("unwanted", "a name that was not asked for", true),
             Finding::User => row("user", "no keytab opens this ticket", false),
             Finding::Unread => row("unread", "the ticket is not in Kerberos' form", true),
             Finding::Name => row("name", "the keytab has no entry of this name", true),
@@ -135,9 +148,9 @@ impl Finding {
     }
 
     /// Returns its bit in a set.
-    pub(crate) fn bit(self) -> u16
+    pub(crate) fn bit(self) -> u32
         ensures { result ≡ bit_of self }
     {
-        1 << (self as u16)
+        1 << (self as u32)
     }
 }

@@ -16,6 +16,7 @@ use Rattle.krb_findings.specs.declared.finding.Finding.{Finding}
 use Rattle.krb_match.specs.declared.judgement.Judgement.{Judgement}
 use Rattle.krb_match.specs.declared.judgement.Judgement.TheVariants.{Etype}
 use Rattle.krb_match.specs.Tickets.{MatchedParts}
+use Rattle.krb_json.specs.Check.{name_members}
 use Rattle.krb_json.specs.Matches.{etypes_value, found, judgement_members, match_members, match_value, matches_value, ticket_numbers}
 use Rattle.krb_json.specs.declared.summary.CacheSummary.{CacheSummary}
 use Rattle.krb_json.specs.Summary.{number_or_null, summary_value}
@@ -86,6 +87,11 @@ pub entry_finding_flat : (finding : Finding) (first : Option ℕ) (x : PlacedEnt
 unfolding about_members
 entry_finding_flat finding None x = omega (arith, text_depth (codes "principal") (name_text x.1.principal))
 entry_finding_flat finding (Some first) x = omega (arith, text_depth (codes "principal") (name_text x.1.principal))
+
+pub name_finding_flat : (finding : Finding) (kvno : Option ℕ) (name : Parts) → depth (finding_value finding (name_members kvno name)) ≤ 2
+unfolding name_members
+name_finding_flat finding None name = omega (arith, text_depth (codes "principal") (name_text name))
+name_finding_flat finding (Some kvno) name = omega (arith, text_depth (codes "principal") (name_text name))
 
 pub missing_flat : (name : List ℕ) → depth (missing_value name) ≤ 2
 missing_flat name = omega (arith, text_depth (codes "principal") name)

@@ -3,12 +3,13 @@ use Rattle.std.specs.Prelude.{ℕ, List, [], ◌∷◌, ◌++◌, map, codes, Bo
 use Rattle.std.specs.List.{flat_map}
 use Rattle.json.specs.Json.{Json, null, string}
 use Rattle.krb_wire.specs.Names.{name_text}
+use Rattle.krb_wire.specs.Spelling.{Parts}
 use Rattle.krb_keytab.specs.Find.{PlacedEntry}
 use Rattle.krb_audit.specs.declared.counts.Counts.{Counts}
 use Rattle.krb_findings.specs.declared.finding.Finding.{Finding}
-use Rattle.krb_findings.specs.declared.finding.Finding.TheVariants.{Mode, Missing, Empty}
+use Rattle.krb_findings.specs.declared.finding.Finding.TheVariants.{Mode, Missing, Empty, Nostrong, Unwanted}
 use Rattle.krb_audit.specs.CheckUp.{CheckParts, has_mode, is_open}
-use Rattle.krb_audit.specs.Findings.{Marked, first_for}
+use Rattle.krb_audit.specs.Findings.{Marked, first_for, newest_for}
 use Rattle.krb_audit.specs.Report.{mode_digits}
 use Rattle.krb_findings.specs.Table.{findings_about_entries, has, row_of}
 use Rattle.krb_json.specs.Escaped.{json_text}
@@ -57,6 +58,19 @@ entry_finding m finding = if has m.1.findings finding then finding_value finding
 abbrev pub entry_findings : Marked → List Json
 entry_findings m = flat_map (entry_finding m) findings_about_entries
 
+-- the newest kvno of a name, if it is given
+abbrev pub kvno_members : Option ℕ → List Member
+kvno_members None = []
+kvno_members (Some kvno) = (codes "kvno", number_of kvno) ∷ []
+
+-- the name that a finding is about
+unfoldable pub name_members : Option ℕ → Parts → List Member
+name_members kvno name = kvno_members kvno ++ (text_member (codes "principal") (name_text name) ∷ [])
+
+-- a finding about the name of an entry as JSON, if it holds
+abbrev pub name_finding : Finding → Marked → List Json
+name_finding finding m = if has m.1.findings finding then finding_value finding (name_members (newest_for m.1 finding) m.0.1.principal) ∷ [] else []
+
 -- a name that is wanted and missing as JSON
 abbrev pub missing_value : List ℕ → Json
 missing_value name = finding_value Missing (text_member (codes "principal") name ∷ [])
@@ -65,7 +79,9 @@ missing_value name = finding_value Missing (text_member (codes "principal") name
 abbrev pub finding_values : CheckParts → List Json
 finding_values c =
     file_findings (has_mode is_open c.mode) Mode
-    ++ (flat_map entry_findings c.entries ++ (file_findings c.is_empty Empty ++ map missing_value c.missing))
+    ++ (flat_map entry_findings c.entries
+    ++ (flat_map (name_finding Nostrong) c.entries
+    ++ (file_findings c.is_empty Empty ++ (map missing_value c.missing ++ flat_map (name_finding Unwanted) c.entries))))
 
 -- a check of a keytab as JSON, with the name of its file and its status
 unfoldable pub check_value : List ℕ → CheckParts → ℕ → Json

@@ -4,7 +4,7 @@ ghost use Rattle.std.specs.Prelude.{◌≡◌, [], ◌∷◌, Some, OnOk, IsFals
 ghost use Rattle.std.specs.List.{flat_map};
 ghost use Rattle.json.specs.Json.{document};
 ghost use Rattle.krb_text.specs.Gathered.{Prints};
-ghost use Rattle.krb_json.specs.Check.{check_json_text, check_members, check_value, entry_finding, entry_findings, file_findings, finding_values, missing_value};
+ghost use Rattle.krb_json.specs.Check.{check_json_text, check_members, check_value, entry_finding, entry_findings, file_findings, finding_values, missing_value, name_finding};
 ghost use Rattle.krb_json.specs.Escaped.{json_text};
 ghost use Rattle.krb_json.specs.Pieces.{Adds, Begins, head_tokens};
 
@@ -104,6 +104,45 @@ fn send_entries<A: Allocator + Copy, W: Write>(
     Ok(())
 }
 
+// Sends a finding about the name of an entry, if it is one of those.
+fn send_name_finding<A: Allocator + Copy, W: Write>(
+    finding: Finding,
+    marked: &Marked<'_>,
+    elements: &mut Elements<A>,
+    out: &mut Watched<W>,
+) -> Result<(), OutFault>
+    requires well { IsFalse out.old.failed }
+    requires empty { elements.old.piece ≡ [] }
+    ensures { Adds out.old out.new elements.old elements.new result (name_finding finding marked.now) }
+{
+    let ((_, entry), marks) = marked;
+    if !marks.findings.has(finding) {
+        return Ok(());
+    }
+    let kvno = marks.newest_for(finding);
+    elements
+        .piece
+        .name_finding(finding, kvno, entry.principal())?;
+    elements.send(out)
+}
+
+// Sends what is found about the names of entries, of one finding.
+fn send_names<A: Allocator + Copy, W: Write>(
+    finding: Finding,
+    entries: &[Marked<'_>],
+    elements: &mut Elements<A>,
+    out: &mut Watched<W>,
+) -> Result<(), OutFault>
+    requires well { IsFalse out.old.failed }
+    requires empty { elements.old.piece ≡ [] }
+    ensures { Adds out.old out.new elements.old elements.new result (flat_map (name_finding finding) entries.now) }
+{
+    'entries: for marked in entries {
+        send_name_finding(finding, marked, elements, out)?;
+    }
+    Ok(())
+}
+
 // Sends a name that is missing.
 fn send_name<A: Allocator + Copy, W: Write>(
     name: &[u8],
@@ -147,8 +186,10 @@ fn send_findings<A: Allocator + Copy, B: Allocator, W: Write>(
 {
     send_if(is_open_file(found.mode()), Finding::Mode, elements, out)?;
     send_entries(found.entries(), elements, out)?;
+    send_names(Finding::Nostrong, found.entries(), elements, out)?;
     send_if(found.is_empty(), Finding::Empty, elements, out)?;
-    send_missing(found.missing(), elements, out)
+    send_missing(found.missing(), elements, out)?;
+    send_names(Finding::Unwanted, found.entries(), elements, out)
 }
 
 /// Writes a check of a keytab as one JSON object (RFC 8259) and a newline: its file name, the mode of its plain file,

@@ -5,7 +5,7 @@ ghost use Rattle.json.specs.Token.{begin_object};
 ghost use Rattle.json.specs.Json.{string};
 ghost use Rattle.json.specs.Tree.{json_tokens};
 ghost use Rattle.krb_findings.specs.Table.{row_of};
-ghost use Rattle.krb_json.specs.Check.{check_members, finding_value, first_members, about_members, missing_value};
+ghost use Rattle.krb_json.specs.Check.{about_members, check_members, finding_value, first_members, kvno_members, missing_value, name_members};
 ghost use Rattle.krb_json.specs.Pieces.{member_tokens, tokens_of};
 
 use crate::piece::Piece;
@@ -13,7 +13,7 @@ use crate::put::Label;
 use krb_audit::Counts;
 use krb_findings::Finding;
 use krb_keytab::EntryView;
-use krb_wire::NoMemory;
+use krb_wire::{NoMemory, PrincipalView};
 use std::alloc::Allocator;
 
 impl<A: Allocator> Piece<A> {
@@ -94,6 +94,41 @@ impl<A: Allocator> Piece<A> {
     {
         self.begin_finding(finding)?;
         self.about_entry(first, place, entry)?;
+        self.end_object()?;
+        Ok(())
+    }
+
+    // Writes the newest kvno of a name, if it is given.
+    fn kvno(&mut self, kvno: Option<u32>) -> Result<(), NoMemory>
+        ensures { OnOk result (self.new ≡ self.old ++ tokens_of (kvno_members kvno)) }
+    {
+        match kvno {
+            Some(kvno) => self.number("kvno", kvno as u64),
+            None => Ok(()),
+        }
+    }
+
+    // Writes the name that a finding is about.
+    #[tactic(auto, unfolding(crate::specs::Check::name_members))]
+    fn about_name(&mut self, kvno: Option<u32>, name: &PrincipalView<'_>) -> Result<(), NoMemory>
+        ensures { OnOk result (self.new ≡ self.old ++ tokens_of (name_members kvno name.now)) }
+    {
+        self.kvno(kvno)?;
+        self.name(Label::Principal, name)
+    }
+
+    /// Writes a finding about a name as an object, with the newest kvno of the name if it is given.
+    pub fn name_finding(
+        &mut self,
+        finding: Finding,
+        kvno: Option<u32>,
+        name: &PrincipalView<'_>,
+    ) -> Result<(), NoMemory>
+        ensures { OnOk result (self.new
+            ≡ self.old ++ json_tokens (finding_value finding (name_members kvno name.now))) }
+    {
+        self.begin_finding(finding)?;
+        self.about_name(kvno, name)?;
         self.end_object()?;
         Ok(())
     }

@@ -5,8 +5,10 @@ use Rattle.krb_files.specs.declared.files.Files.{Ghosts}
 use Rattle.krb_files.specs.Plan.{Ends}
 use Rattle.krb_findings.specs.declared.finding_set.FindingSet.{FindingSet}
 use Rattle.krb_audit.specs.CheckUp.{CheckParts, checked, findings_of, is_wrong, uncounted}
+use Rattle.krb_audit.specs.Findings.{CheckAsked}
 use Rattle.krb_audit.specs.Report.{report}
-use Rattle.krb_findings.specs.Table.{joined, none, without}
+use Rattle.krb_findings.specs.declared.finding.Finding.TheVariants.{Nostrong}
+use Rattle.krb_findings.specs.Table.{has, joined, none, without}
 use Rattle.krb_json.specs.Check.{check_json_text, refused_json_text}
 use Rattle.krb_driver.specs.declared.command.RunEnd.{RunEnd}
 use Rattle.krb_driver.specs.declared.command.World.{World}
@@ -38,11 +40,15 @@ is_silent o c = o.quiet && not (is_wrong o.allowed c)
 -- the verdict of ktcheck on a file: the findings that are yet to be explained, and whether something is wrong that is not allowed
 abbrev pub found_verdict : KeytabCheck → FindingSet → CheckParts → Verdict
 found_verdict o explained c =
-    Found (record { words = without (findings_of c) (joined (left_out o c) explained); weak_etypes = c.weak_etypes; fault = c.fault; is_wrong = is_wrong o.allowed c; v1_order = o.v1_order })
+    Found (record { words = without (findings_of c) (joined (left_out o c) explained); weak_etypes = c.weak_etypes; lacks_strong = has (findings_of c) Nostrong; fault = c.fault; is_wrong = is_wrong o.allowed c; v1_order = o.v1_order })
+
+-- what a check is asked by the options of ktcheck and the time by which entries are aged
+abbrev pub asked : KeytabCheck → Option ℕ → CheckAsked
+asked o by = record { aged_by = by; wanted = o.wanted; only = o.only }
 
 -- what ktcheck finds in a keytab, by its options, the time by which entries are aged and the mode of the file
 abbrev pub found : KeytabCheck → Option ℕ → Option ℕ → KeytabState → CheckParts
-found o aged_by mode k = checked mode aged_by o.wanted k
+found o by mode k = checked mode (asked o by) k
 
 -- the lines of ktcheck for a file, each after a label
 abbrev pub lines_of : KeytabCheck → List ℕ → CheckParts → List ℕ

@@ -40,6 +40,8 @@ impl Phrase<'static> {
     pub const DOES_NOT_GO_WITH: Self = Phrase::Shown("", " does not go with ", "");
     /// Of an option, without `-k`.
     pub const FOR_KEYTABS: Self = Phrase::Shown("", " is for keytabs; give -k", "");
+    /// Of an option without another one that it needs.
+    pub const GOES_WITH: Self = Phrase::Shown("", " goes with ", "");
     /// Of an option that goes with another one only.
     pub const ONLY_WITH: Self = Phrase::Shown("", " goes with ", " alone");
     /// Of an option that goes with another one that is given once.

@@ -102,7 +102,7 @@ fn last_of<'a>(operand: &'a [u8]) -> [MessagePiece<'a>; 3]
     [Text(" "), Operand(operand), END]
 }
 
-// Adds the hint for weak enctypes, if there is one.
+// Adds the hint for weak enctypes, if that is explained, but not if it would take all keys of a name.
 fn add_weak_hint<E: Write>(
     findings: &Findings,
     operand: &[u8],
@@ -111,7 +111,8 @@ fn add_weak_hint<E: Write>(
 )
     ensures { Adds err.old gathered.old.items err.new gathered.new.items (weak_hint findings.now operand.now) }
 {
-    if !findings.words.has(Finding::Weak) {
+    let is_due = findings.words.has(Finding::Weak) & !findings.lacks_strong;
+    if !is_due {
         return;
     }
     add_pieces(&remove_command(findings.v1_order), gathered, err);

@@ -2,13 +2,13 @@
 
 ghost use Rattle.std.specs.Prelude.{◌≡◌, ◌++◌, IfOk, OnOk, false};
 ghost use Rattle.krb_driver.specs.Composing.{output_page};
-ghost use Rattle.krb_readers.specs.Ktcheck.{check_page, found, found_verdict, is_silent, left_out, lines_of, page_of};
+ghost use Rattle.krb_readers.specs.Ktcheck.{asked, check_page, found, found_verdict, is_silent, left_out, lines_of, page_of};
 
 use crate::ktcheck::words::CheckOptions;
-use krb_audit::{CheckUp, append_report, check_up};
+use krb_audit::{CheckCriteria, CheckUp, append_report, check_up};
 use krb_driver::{FileName, Findings, Output, RunError, Show, Verdict, label_of};
 use krb_files::Watched;
-use krb_findings::FindingSet;
+use krb_findings::{Finding, FindingSet};
 use krb_json::check_json;
 use krb_keytab::Keytab;
 use krb_wire::NoMemory;
@@ -25,6 +25,20 @@ pub struct CheckObject<'f, A: Allocator, B: Allocator> {
     pub explained: FindingSet,
     pub mode: Option<u32>,
     pub keytab: Keytab<A>,
+}
+
+impl<A: Allocator, B: Allocator> CheckObject<'_, A, B> {
+    // Returns what the check is asked for.
+    fn asked(&self) -> CheckCriteria<'_, B>
+        ensures { result ≡ asked self.now.options.now self.now.aged_by }
+    {
+        let options = self.options;
+        CheckCriteria {
+            aged_by: self.aged_by,
+            wanted: &options.wanted,
+            only: options.only,
+        }
+    }
 }
 
 // Returns the findings that are left out: with `-q` those that do not count for the status.
@@ -54,6 +68,7 @@ fn verdict_of<A: Allocator, B: Allocator>(
             .findings()
             .without(left_out(options, found).and(explained)),
         weak_etypes: found.weak_etypes(),
+        lacks_strong: found.findings().has(Finding::Nostrong),
         fault: found.fault(),
         is_wrong: found.is_wrong(options.allowed),
         v1_order: options.v1_order,
@@ -94,13 +109,8 @@ pub fn check_lines<A: Allocator + Copy, B: Allocator>(
 {
     let options = object.options;
     let label = label_of(alloc, options.with_filename || are_several, file)?;
-    let found = check_up(
-        alloc,
-        object.mode,
-        object.aged_by,
-        &options.wanted,
-        &object.keytab,
-    )?;
+    let asked = object.asked();
+    let found = check_up(alloc, object.mode, &asked, &object.keytab)?;
     let mut text = Vec::new(alloc);
     append_lines(options, &label, &found, &mut text)?;
     Ok(Output {
@@ -120,13 +130,8 @@ impl<A: Allocator + Copy, B: Allocator> Show<A> for CheckObject<'_, A, B> {
         out: &mut Watched<W>,
     ) -> Result<Verdict, RunError> {
         let options = self.options;
-        let found = check_up(
-            alloc,
-            self.mode,
-            self.aged_by,
-            &options.wanted,
-            &self.keytab,
-        )?;
+        let asked = self.asked();
+        let found = check_up(alloc, self.mode, &asked, &self.keytab)?;
         let verdict = verdict_of(options, self.explained, &found);
         if is_silent(options, &found) {
             return Ok(verdict);

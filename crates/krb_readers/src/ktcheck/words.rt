@@ -1,12 +1,13 @@
 //! The words of ktcheck, and its options.
 
 ghost use Rattle.std.specs.Prelude.{map};
-ghost use Rattle.krb_readers.specs.KtcheckWords.{keytab_check_of, spelled_finding, spelled_findings};
+ghost use Rattle.krb_readers.specs.KtcheckWords.{keytab_check_of, odd_only, spelled_finding, spelled_findings};
+ghost use Rattle.krb_driver.specs.Mistakes.{Refuses};
 ghost use Rattle.krb_driver.specs.Spelled.{ReadsAs, Spells};
 
 use krb_driver::{
     CommandName, CommandWords, Matches, Mistake, Phrase, V1_BIG, Word, WordFault, refuse_twice,
-    spelled_names, spelled_seconds, v1_order,
+    spelled_names, spelled_seconds, times_given, v1_order,
 };
 use krb_findings::{Finding, FindingSet};
 use krb_wire::Order;
@@ -20,7 +21,7 @@ pub const KTCHECK: CommandWords = CommandWords {
     about: "Reports what is wrong with keytabs",
     usage: "\
 krbfile ktcheck [--v1-big] [-q] [-H] [--json] [--allow WORD].. [--older SECONDS]
-                       [--want NAME].. [FILE..]",
+                       [--want NAME].. [--only] [FILE..]",
     after_help: Some(
         "\
 Without FILE it checks the keytab that KRB5_KTNAME names, else /etc/krb5.keytab.
@@ -33,7 +34,7 @@ Statuses:
   3  A file or the output failed
   4  Out of memory
 Example: what is wrong with keytabs, where weak keys are wanted
-  krbfile ktcheck -q --allow weak host.keytab mixed.keytab",
+  krbfile ktcheck -q --allow weak --allow nostrong host.keytab mixed.keytab",
     ),
     words: &[
         V1_BIG,
@@ -59,6 +60,7 @@ Example: what is wrong with keytabs, where weak keys are wanted
             "NAME",
             "Find that a name with its realm has no entry; may be repeated",
         ),
+        Word::LongFlag("only", "Find each name that --want does not ask for"),
         Word::Operands("FILE", "The files to check"),
     ],
 };
@@ -80,6 +82,8 @@ pub struct CheckOptions<A: Allocator> {
     pub older: Option<u32>,
     /// The names that have to be there, as they are printed.
     pub wanted: Vec<Vec<u8, A>, A>,
+    /// Names that are not wanted are found.
+    pub only: bool,
 }
 
 impl<A: Allocator> Model for CheckOptions<A> {
@@ -97,6 +101,7 @@ impl<A: Allocator> Model for CheckOptions<A> {
       allowed = o.allowed;
       older = o.older;
       wanted = map vec_items o.wanted.items;
+      only = o.only;
     } };
 }
 
@@ -121,8 +126,18 @@ fn findings<'a>(words: &[&'a str]) -> Result<FindingSet, Mistake<'a>>
     Ok(findings)
 }
 
-/// Returns the options of ktcheck. Refuses an age that is given twice, a word that is no finding, and an age and a name
-/// that cannot be read.
+// Refuses `--only` without `--want`.
+fn refuse_odd_only<'a, M: Matches<'a>>(matches: &M) -> Result<(), Mistake<'a>>
+    ensures { Refuses (odd_only (M.matched matches.now)) result }
+{
+    if matches.flag("only") && times_given(matches, "want") == 0 {
+        return Err(Phrase::GOES_WITH.of_both("--only", "--want"));
+    }
+    Ok(())
+}
+
+/// Returns the options of ktcheck. Refuses an age that is given twice, `--only` without a name, a word that is no
+/// finding, and an age and a name that cannot be read.
 pub fn check_options<'a, M: Matches<'a>>(
     alloc: Global,
     matches: &M,
@@ -130,6 +145,7 @@ pub fn check_options<'a, M: Matches<'a>>(
     ensures { ReadsAs (keytab_check_of (M.matched matches.now)) result }
 {
     refuse_twice(matches, "older", "--older", "--older")?;
+    refuse_odd_only(matches)?;
     let allowed = findings(matches.values("allow"))?;
     let older = spelled_seconds(matches, "older")?;
     let wanted = spelled_names(alloc, matches, "want")?;
@@ -141,5 +157,6 @@ pub fn check_options<'a, M: Matches<'a>>(
         allowed,
         older,
         wanted: wanted?,
+        only: matches.flag("only"),
     })
 }

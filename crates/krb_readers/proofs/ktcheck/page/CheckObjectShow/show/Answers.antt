@@ -1,4 +1,6 @@
-use Rattle.krb_readers.proofs.Cited.{ℕ, KeytabCheck, List, ap, sym, subst, ◌∙◌, Ok, Err, err_from_is_err_and, CheckParts, check_json_text, verdict_status, Prints, found, found_verdict, is_silent}
+use Rattle.krb_readers.proofs.Cited.{ℕ, List, ap, sym, subst, ◌∙◌, Ok, Err, err_from_is_err_and, CheckParts, check_json_text, verdict_status, Prints, found, found_verdict, is_silent}
+use Rattle.krb_audit.specs.CheckUp.{checked}
+use Rattle.krb_audit.specs.Findings.{CheckAsked}
 use Rattle.krb_readers.proofs.Checked.{object-failed, object-shown, object-silent, object-unshown}
 use Rattle.krb_readers.proofs.ktcheck.page.CheckObjectShow.show.Goals as goal
 
@@ -12,7 +14,7 @@ pub returns-then-is_silent : goal.returns-then-is_silent
 returns-then-is_silent g c =
     let j = c.args.self.now in
     let due = found j.options.now j.aged_by j.mode j.keytab.state in
-    let is = (rw c.deref.ensures.value at c.in_ok-found.ensures) ∙ ap (λ (o : KeytabCheck). found o j.aged_by j.mode j.keytab.state) c.options.view_is in
+    let is = c.in_ok-found.ensures ∙ ap (λ (a : CheckAsked). checked j.mode a j.keytab.state) c.asked-asked.ensures in
     let silent = sym (c.is_silent.ensures ∙ ap (is_silent j.options.now) is) ∙ c.if-is_silent.true in
     object-silent j.options.now j.explained c.args.file.now due c.args.out.now c.verdict_of-verdict.result c.requires
     (c.verdict_of-verdict.ensures ∙ ap (found_verdict j.options.now j.explained) is) silent
@@ -22,7 +24,7 @@ returns-in_err-check_json g c =
     let j = c.args.self.now in
     let file = c.args.file.now in
     let due = found j.options.now j.aged_by j.mode j.keytab.state in
-    let is = (rw c.deref.ensures.value at c.in_ok-found.ensures) ∙ ap (λ (o : KeytabCheck). found o j.aged_by j.mode j.keytab.state) c.options.view_is in
+    let is = c.in_ok-found.ensures ∙ ap (λ (a : CheckAsked). checked j.mode a j.keytab.state) c.asked-asked.ensures in
     let prints = sym (c.is_silent.ensures ∙ ap (is_silent j.options.now) is) ∙ c.if-is_silent.false in
     let verdict = c.verdict_of-verdict.ensures ∙ ap (found_verdict j.options.now j.explained) is in
     let text = ap (λ (d : CheckParts). check_json_text file d c.status.result) is ∙ ap (check_json_text file due) (c.status.ensures ∙ ap verdict_status verdict) in
@@ -35,7 +37,7 @@ returns g c =
     let j = c.args.self.now in
     let file = c.args.file.now in
     let due = found j.options.now j.aged_by j.mode j.keytab.state in
-    let is = (rw c.deref.ensures.value at c.in_ok-found.ensures) ∙ ap (λ (o : KeytabCheck). found o j.aged_by j.mode j.keytab.state) c.options.view_is in
+    let is = c.in_ok-found.ensures ∙ ap (λ (a : CheckAsked). checked j.mode a j.keytab.state) c.asked-asked.ensures in
     let prints = sym (c.is_silent.ensures ∙ ap (is_silent j.options.now) is) ∙ c.if-is_silent.false in
     let verdict = c.verdict_of-verdict.ensures ∙ ap (found_verdict j.options.now j.explained) is in
     let text = ap (λ (d : CheckParts). check_json_text file d c.status.result) is ∙ ap (check_json_text file due) (c.status.ensures ∙ ap verdict_status verdict) in
