@@ -34,7 +34,7 @@ pub fn computes() -> u8
 
 REFUSED = re.compile(r"\./proofs/\w+\.antt:\S+ error: `row_(\d+)`: (.*)")  # a refusal of a row, with its first line
 FAILED = (3, 4)  # the statuses of runs in which a call failed
-# The options of which no run is computed, and why.
+# The options without a computed run, and why.
 NEVER_COMPUTED = {f"{command} --in-place": "the same is saved, and each such run is compared with the one without it"
                   for command in ("ktedit", "ktremove", "ktcopy", "ktutil", "ccedit", "ccremove")}
 
@@ -107,7 +107,7 @@ def refusals(rows: dict[int, tuple[Case, str]], are_sources: bool) -> dict[int, 
 
 
 def check_options(report: Report, cases: Iterable[Case]) -> None:
-    """Reports the options of help of which no run is computed, unless it is said why."""
+    """Reports the options of help without a computed run, unless it is said why."""
     computed = {option for case in cases for option in Words(case).spelled()}
     known = {f"{command} --{name}" for command, spelling in spellings().items() for name in spelling.options}
     report.check("computed: each option", [f"{option} is in no run" for option in sorted(

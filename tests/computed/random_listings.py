@@ -9,7 +9,7 @@ from computed.topic import Topic
 from keytabs.listings import KNOWN_TIMES
 from makers.images import CONFIG_FIRST, CONFIG_REALM, TWO, Credential, Name, cache, name_text, ticket_of
 from makers.random_caches import SAMPLES as CACHES
-from makers.random_caches import random_cache, random_credential, with_damage
+from makers.random_caches import random_cache, random_credential, random_header, with_damage
 from makers.random_keytabs import SAMPLES as KEYTABS
 from makers.random_keytabs import Choices, damaged, mutated, random_image
 from runs.undisturbed import Undisturbed, undisturbed
@@ -18,7 +18,8 @@ from words.phrases import FINDINGS
 # Few names, versions, types and keys, so that many entries agree.
 FOUND = Choices(names=(*[(b"a", b"R")] * 5, (b"a", b"b", b"R"), (b"a/b", b"R"), (b"", b"\n", b"@"), (b"\n", b"@"),
                        (b"-A", b"R")), versions=(0, 1, 255, 256, 257, 2**32 - 1), enctypes=(0, 17, 18, 273))
-CHECKED = Choices(names=((b"a", b"R"), (b"a", b"b", b"R"), (b"", b"R"), (b"\xff ", b"R"), ("é\t".encode(), b"R")),
+CHECKED = Choices(names=((b"a", b"R"), (b"a", b"b", b"R"), (b"", b"R"), (b"R",), (b"\xff ", b"R"),
+                         ("é\t".encode(), b"R")),
                   versions=(1, 240), enctypes=(3, 17, 23), timestamps=(0, 1, 2**32 - 1),
                   keys=(b"", b"x", b"x", b"y", bytes(16)))
 MATCHED = Choices(names=(*[(b"a", b"R")] * 6, (b"A", b"R"), (b"a", b"S"), (b"krbtgt", b"R"), (b"R",)),
@@ -38,7 +39,7 @@ SEVERAL = [("k",), ("k",), ("k", "j"), ("no", "k", "k"), ("KCM:k", "j", "FILE:k"
 CACHE_NAMES = [("c",), ("c",), ("c", "DIR::c"), ("DIR:c", "c", "no", "c")]
 
 NOW = 1_700_000_000  # the time of the clock
-TIMES = [*KNOWN_TIMES, NOW - 1, NOW + 1]  # before it, at it and after it
+TIMES = [*KNOWN_TIMES, NOW - 1, NOW + 1, NOW + 19_220]  # before it, at it and after it
 WHILES = (None, 0, 1, 1_000, 2**32 - 1)
 
 
@@ -97,6 +98,7 @@ def checked(random: Random) -> Iterator[Undisturbed]:
     words = random.choices([*"kjid", "FILE:k", "WRFILE:j", "KCM:k"], k=random.choice((1, 1, 2, 3, 6)))
     allowed = [f"--allow={word}" for word in random.choices([*FINDINGS], k=random.choice((0, 0, 1, 5)))]
     wanted = [f"--want={name}" for name in random.choices(WANTED, k=random.choice((0, 0, 1, 3)))]
+    wanted += ["--only"] * (random.random() < (0.5 if wanted else 0.02))
     older = f"--older={random.choice((0, 1, NOW - 1, NOW, 2**32 - 1))}"
     others = options(random, "-H", "--json", "-q", "--v1-big", older)
     yield undisturbed(("ktcheck", *allowed, *wanted, *others, *words), clock=NOW, **files)
@@ -111,7 +113,8 @@ def random_ticket(random: Random) -> Credential:
 def cache_of_tickets(random: Random) -> bytes:
     """Returns a cache of a few tickets."""
     tickets = (random_ticket(random) for _ in range(random.randrange(9)))
-    return cache(*tickets, default=Name(realm=random.choice((b"R", b"R", b"S"))), version=random.choice((3, 4)))
+    return cache(*tickets, default=Name(realm=random.choice((b"R", b"R", b"S"))), fields=random_header(random),
+                 version=random.choice((3, 4)))
 
 
 def view(random: Random) -> Iterator[Undisturbed]:

@@ -16,9 +16,8 @@ COMMAND = re.compile(r'^pub const \w+: CommandWords = .*?^    name: "(\w+)".*?^ 
 
 # What a definition is given before the files, which have an input after them, if that is not only whether messages are
 # explained; klist's is another by its other options.
-GIVEN = {"ktcheck": ("explains", "mode", "clock"),
-         **dict.fromkeys(("show", "ktremove", "ccremove", "ktutil", "klist_overview", "klist_silent"),
-                         ("explains", "clock"))}
+GIVEN = {**dict.fromkeys(("ktcheck", "show"), ("explains", "mode", "clock")),
+         **dict.fromkeys(("ktremove", "ccremove", "ktutil", "klist_overview", "klist_silent"), ("explains", "clock"))}
 READING = ("ktedit", "ccedit", "ktutil", "hold")
 OTHERS = {"list": "klist_overview", "silent": "klist_silent"}
 TIMED = {"show", "list", "silent", "age", "older", "expired"}  # the command and the options that ask for the time

@@ -188,11 +188,16 @@ WAYS = {"on a pipe": (run, False), "on a terminal": (run_on_terminal, True),
         EXPLAIN: (lambda program, words, *more, **options: run(program, (EXPLAIN, *words), *more, **options), True)}
 
 
+def set_mode(folder: str, case: Case) -> None:
+    """Gives the files of a case their mode, if it has one."""
+    for name in case.files if case.mode else ():
+        os.chmod(os.path.join(folder, name), stat.S_IMODE(case.mode))
+
+
 def run_case(program: str, case: Case, **options) -> tuple[Outcome, dict[str, bytes]]:
     """Runs a case in a folder of its own, and returns its outcome and the files that are there afterwards."""
     with folder_of(case.files) as folder:
-        for name in case.files if case.mode else ():
-            os.chmod(os.path.join(folder, name), stat.S_IMODE(case.mode))
+        set_mode(folder, case)
         return run(program, case.words, folder, case.stdin, **options), files_in(folder)
 
 

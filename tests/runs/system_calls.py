@@ -11,7 +11,8 @@ from collections import Counter
 from collections.abc import Callable, Iterator
 from dataclasses import dataclass, replace
 
-from runs.harness import SECONDS, Case, Outcome, Report, faults_of, files_in, folder_of, mode_of_files, piped, run
+from runs.harness import (SECONDS, Case, Outcome, Report, faults_of, files_in, folder_of, mode_of_files, piped, run,
+                          set_mode)
 from runs.undisturbed import Run, preload_library, undisturbed
 
 CALL = re.compile(r"(\w+)\(")  # a line of a trace that begins a system call
@@ -137,8 +138,11 @@ class Preloaded:
 
     def check(self, report: Report, case: Case, **clock: int) -> None:
         """Makes a run by a clock and reports it. What it comes to is computed too, but not by a clock past 32 bits."""
-        got, second = self.run(case, **clock), clock.get("CLOCK", 2**32)
-        report.seen.append(replace(case, clock=second if second < 2**32 else None, mode=mode_of_files()))
+        with folder_of(case.files) as folder:
+            set_mode(folder, case)
+            got, second = self.run_in(folder, case, **clock), clock.get("CLOCK", 2**32)
+        mode = case.mode or mode_of_files()
+        report.seen.append(replace(case, clock=second if second < 2**32 else None, mode=mode))
         report.check(case.name, faults_of(case, got.outcome, got.files))
 
 

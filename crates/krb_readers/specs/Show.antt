@@ -10,7 +10,7 @@ use Rattle.krb_driver.specs.declared.error.RunError.TheVariants.{ClockNotRead}
 use Rattle.krb_driver.specs.declared.file_name.FileName.{FileName}
 use Rattle.krb_driver.specs.declared.verdict.FileKind.{FileKind}
 use Rattle.krb_driver.specs.declared.verdict.FileKind.TheVariants.{Keytab, Cache}
-use Rattle.krb_driver.specs.Commands.{CommandPlan, Displays, Effect, EndsBefore, always, opens, text}
+use Rattle.krb_driver.specs.Commands.{CommandPlan, Displays, Effect, EndsBefore, opens, text}
 use Rattle.krb_driver.specs.Either.{EitherState, OfKeytab, OfCache, contents_in, damage_of}
 use Rattle.krb_driver.specs.FileNames.{shown_name}
 use Rattle.krb_driver.specs.Spelled.{◌>>◌}
@@ -20,28 +20,28 @@ use Rattle.krb_driver.specs.Several.{RunsOver, first_round}
 use Rattle.krb_readers.specs.declared.show.words.ShowOptions.{ShowOptions}
 use Rattle.krb_readers.specs.Klist.{gap, printed_after}
 
--- what show prints of a keytab or a cache in the file of a name, at a second
-abbrev pub view_of : List ℕ → ℕ → EitherState → List ℕ
-view_of name now (OfKeytab k) = keytab_view name now k
-view_of name now (OfCache k) = cache_view name now k
+-- what show prints of a keytab or a cache in the file of a name, at a second, by the mode of the file
+abbrev pub view_of : List ℕ → ℕ → Option ℕ → EitherState → List ℕ
+view_of name now mode (OfKeytab k) = keytab_view name now mode k
+view_of name now mode (OfCache k) = cache_view name now mode k
 
 -- what show prints of a file, after an empty line if another was before
-abbrev pub block : ℕ → Bool → List ℕ → EitherState → List ℕ
-block now is_after file k = gap false is_after ++ view_of (shown_name file) now k
+abbrev pub block : ℕ → Bool → List ℕ → Option ℕ → EitherState → List ℕ
+block now is_after file mode k = gap false is_after ++ view_of (shown_name file) now mode k
 
 -- what show does with a file: it prints the file, and reports the fault of a damaged one
-abbrev pub shows : ℕ → Bool → List ℕ → EitherState → Effect
-shows now is_after file k = Displays file (text (block now is_after file k) (listing_verdict (damage_of k)))
+abbrev pub shows : ℕ → Bool → List ℕ → Option ℕ → EitherState → Effect
+shows now is_after file mode k = Displays file (text (block now is_after file mode k) (listing_verdict (damage_of k)))
 
--- the plan of show for a file: it is opened as a keytab or a cache, and printed
-abbrev pub show_plan : Order → ℕ → Bool → FileName → CommandPlan
-show_plan order now is_after file = opens file (contents_in order) (λ k. Ends (shows now is_after file.name.now k))
+-- the plan of show for a file, by its mode: it is opened as a keytab or a cache, and printed
+abbrev pub show_plan : Order → ℕ → Bool → FileName → Option ℕ → CommandPlan
+show_plan order now is_after file mode = opens file (contents_in order) (λ k. Ends (shows now is_after file.name.now mode k))
 
 module _ {F R W E : Type 0} (trait : Ghosts F) (order : Order) (old new : World F R W E) (status : ℕ) (names : List FileName) where
   -- a run of show at a second took the world from `old` to `new`: files were shown one after the other, and the greatest status counts
   pub record ShowsAt (now : ℕ) : Type 0 where
     pub printed : Bool
-    pub over : RunsOver trait (λ is_after file. always (show_plan order now is_after file)) printed_after names (first_round false old) (record { world = new; state = printed; status = status })
+    pub over : RunsOver trait (show_plan order now) printed_after names (first_round false old) (record { world = new; state = printed; status = status })
 
   -- a run of show took the world from `old` to `new` with this status, at the clock's second if the clock was read
   abbrev pub ShowsAll : Option ℕ → Type 0

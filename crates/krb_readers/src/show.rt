@@ -3,7 +3,7 @@
 pub(crate) mod words;
 
 ghost use Rattle.std.specs.Prelude.{◌≡◌, ◌++◌, OnOk, IfOk};
-ghost use Rattle.krb_driver.specs.Commands.{IsMade, always};
+ghost use Rattle.krb_driver.specs.Commands.{IsMade};
 ghost use Rattle.krb_driver.specs.Composing.{text_effect};
 ghost use Rattle.krb_driver.specs.Either.{damage_of, state_of};
 ghost use Rattle.krb_driver.specs.RunErrors.{listing_verdict};
@@ -35,14 +35,15 @@ fn append_view<A: Allocator + Copy>(
     alloc: A,
     name: &[u8],
     now: u32,
+    mode: Option<u32>,
     of: &Contents<A>,
     out: &mut Vec<u8, A>,
 ) -> Result<(), NoMemory>
-    ensures { OnOk result (out.new.items ≡ out.old.items ++ view_of name.now now (state_of of.now)) }
+    ensures { OnOk result (out.new.items ≡ out.old.items ++ view_of name.now now mode (state_of of.now)) }
 {
     match of {
-        Contents::Keytab(keytab) => append_keytab_view(alloc, name, now, keytab, out),
-        Contents::Cache(cache) => append_cache_view(alloc, name, now, cache, out),
+        Contents::Keytab(keytab) => append_keytab_view(alloc, name, now, mode, keytab, out),
+        Contents::Cache(cache) => append_cache_view(alloc, name, now, mode, cache, out),
     }
 }
 
@@ -52,9 +53,10 @@ fn block_of<A: Allocator + Copy>(
     now: u32,
     is_after: bool,
     file: &str,
+    mode: Option<u32>,
     of: &Contents<A>,
 ) -> Result<Vec<u8, A>, NoMemory>
-    ensures { IfOk result (λ text. text.items ≡ block now is_after file.now (state_of of.now)) }
+    ensures { IfOk result (λ text. text.items ≡ block now is_after file.now mode (state_of of.now)) }
 {
     let mut text = Vec::new(alloc);
     if is_after {
@@ -62,7 +64,7 @@ fn block_of<A: Allocator + Copy>(
     }
     let mut name = Vec::new(alloc);
     append_name(file.as_bytes(), &mut name)?;
-    append_view(alloc, &name, now, of, &mut text)?;
+    append_view(alloc, &name, now, mode, of, &mut text)?;
     Ok(text)
 }
 
@@ -82,11 +84,12 @@ fn shown<'a, A: Allocator + Copy>(
     now: u32,
     is_after: bool,
     file: &'a str,
+    mode: Option<u32>,
     of: Contents<A>,
 ) -> Result<Made<A, Output<A>>, FileError<'a>>
-    ensures { IsMade (shows now is_after file.now (state_of of)) (text_effect file.now result) }
+    ensures { IsMade (shows now is_after file.now mode (state_of of)) (text_effect file.now result) }
 {
-    let text = block_of(alloc, now, is_after, file, &of)?;
+    let text = block_of(alloc, now, is_after, file, mode, &of)?;
     let verdict = verdict_of(&of);
     Ok(Made::Shows(Output { text, verdict }))
 }
@@ -97,11 +100,10 @@ impl<A: Allocator + Copy> OverFiles<A> for ShowFiles {
 
     type Shown = Output<A>;
 
-    ghost plan = { λ c is_after file. always (show_plan c.v1_order c.now is_after file) };
+    ghost plan = { λ c. show_plan c.v1_order c.now };
 
     ghost after = { printed_after };
 
-    #[tactic(auto, unfolding(krb_driver::specs::Commands::always))]
     fn make<'f, F: Files>(
         &'f self,
         alloc: A,
@@ -110,7 +112,7 @@ impl<A: Allocator + Copy> OverFiles<A> for ShowFiles {
         files: &mut F,
     ) -> MakeResult<'f, A, Output<A>> {
         let of = open(alloc, EitherUse(self.v1_order), files, file)?;
-        shown(alloc, self.now, is_after, file.name, of)
+        shown(alloc, self.now, is_after, file.name, files.mode(), of)
     }
 
     fn after(printed: bool, end: RunEnd) -> bool

@@ -3,4 +3,3 @@ pub mod OnLiterals
 pub mod Tables
 pub mod Distinct
 pub mod EntryLines
-pub mod KeyCells

@@ -15,9 +15,12 @@ use Rattle.krb_keytab.specs.Store.{KeytabState, store_of}
 use Rattle.krb_text.specs.FaultLine.{fault_line}
 use Rattle.krb_audit.specs.Newest.{is_old}
 use Rattle.krb_audit.specs.Rows.{first_number}
+use Rattle.krb_audit.specs.Tally.{tally_of}
+use Rattle.krb_audit.specs.declared.tally.Tally.{Tally}
 use Rattle.krb_show.specs.Ago.{time_cell}
 use Rattle.krb_show.specs.Columns.{counted, table}
 use Rattle.krb_show.specs.EtypeNames.{etype_cell}
+use Rattle.krb_show.specs.Heading.{count_note, mode_note}
 
 -- ---- the lines
 
@@ -89,11 +92,10 @@ keys_cell is_old etypes =
     spaced true (take 8 (distinct etypes))
     ++ (more_types (length (distinct etypes) - 8) ++ (if is_old then codes " old" else []))
 
--- the cells of a line of show's table: its kvno, time and enctypes, and the name at the line of its newest kvno
+-- the cells of a line of show's table: its kvno, time, enctypes and name
 abbrev pub key_row : ℕ → LineKey × LineParts → List (List ℕ)
 key_row now x =
-    decimal x.0.2.0 ∷ time_cell now x.1.added ∷ keys_cell x.0.1 x.1.etypes
-    ∷ (if x.0.1 then [] else name_text x.1.principal ∷ [])
+    decimal x.0.2.0 ∷ time_cell now x.1.added ∷ keys_cell x.0.1 x.1.etypes ∷ name_text x.1.principal ∷ []
 
 -- the titles of the columns
 abbrev pub key_titles : List (List ℕ)
@@ -105,14 +107,27 @@ key_titles = codes "KVNO" ∷ codes "ADDED" ∷ codes "KEYS" ∷ codes "PRINCIPA
 abbrev pub name_count : List (LineKey × LineParts) → ℕ
 name_count lines = length (filter (λ x. not x.0.1) lines)
 
--- the heading: the file's name, the number of keys, and the number of names
-abbrev pub keytab_heading : List ℕ → ℕ → ℕ → List ℕ
-keytab_heading name keys names =
-    name ++ (codes ": keytab, " ++ (counted keys (codes "key") ++ (codes " of " ++ (counted names (codes "principal") ++ codes "\n"))))
+-- the heading begins with the file's name, the number of keys, and the number of names
+abbrev pub keytab_title : List ℕ → ℕ → ℕ → List ℕ
+keytab_title name keys names =
+    name ++ (codes ": keytab, " ++ (counted keys (codes "key") ++ (codes " of " ++ counted names (codes "principal"))))
 
--- what show prints of a keytab at a second, with the name of its file
-abbrev pub keytab_view : List ℕ → ℕ → KeytabState → List ℕ
-keytab_view name now k =
+-- how many names have weak keys alone, unless none has
+abbrev pub weak_names_note : ℕ → List ℕ
+weak_names_note n = if n == 0 then [] else codes ", " ++ (counted n (codes "principal") ++ codes " with weak keys alone!")
+
+-- what is said of a keytab: how many keys are weak, and old, how many names have weak keys alone, and its file's mode
+abbrev pub keytab_notes : Tally → Option ℕ → List ℕ
+keytab_notes t mode =
+    count_note t.weak_entries (codes " weak!") ++ (count_note t.old_entries (codes " old") ++ (weak_names_note t.weak_names ++ mode_note mode))
+
+-- the heading
+unfoldable pub keytab_heading : List ℕ → ℕ → ℕ → Tally → Option ℕ → List ℕ
+keytab_heading name keys names tally mode = keytab_title name keys names ++ (keytab_notes tally mode ++ codes "\n")
+
+-- what show prints of a keytab at a second, with the name and the mode of its file
+abbrev pub keytab_view : List ℕ → ℕ → Option ℕ → KeytabState → List ℕ
+keytab_view name now mode k =
     let lines = lines_of (placed_entries k) in
-    keytab_heading name (length (placed_entries k)) (name_count lines) ++ (table key_titles (map (key_row now) lines)
+    keytab_heading name (length (placed_entries k)) (name_count lines) (tally_of k) mode ++ (table key_titles (map (key_row now) lines)
     ++ fault_line (fault_of (store_of k)))

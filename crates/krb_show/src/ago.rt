@@ -2,7 +2,7 @@
 
 ghost use Rattle.std.specs.Prelude.{◌≡◌, ◌<◌};
 ghost use Rattle.krb_wire.specs.Text.{AppendedPart};
-ghost use Rattle.krb_show.specs.Ago.{ago, span, time_cell, unit_of};
+ghost use Rattle.krb_show.specs.Ago.{ago, ahead, in_unit, rest, span, time_cell, unit_within};
 
 use krb_text::{append, append_labelled};
 use krb_wire::NoMemory;
@@ -16,23 +16,36 @@ const HOUR: u32 = 3600;
 
 const MINUTE: u32 = 60;
 
-// Returns the greatest unit that fits twice or more, or the second: its seconds, and the end of a text in it.
-fn unit_of(seconds: u32) -> (u32, &'static [u8])
-    ensures seconds { result.0 ≡ (unit_of seconds).0 }
-    ensures word { result.1.now ≡ (unit_of seconds).1 }
+// Returns the greatest unit of at most that many seconds, or the second: its seconds, and the end of a text in it.
+fn unit_within(most: u32) -> (u32, &'static [u8])
+    ensures seconds { result.0 ≡ (unit_within most).0 }
+    ensures word { result.1.now ≡ (unit_within most).1 }
     ensures positive { 0 < result.0 }
 {
-    if seconds >= 2 * YEAR {
+    if most >= YEAR {
         (YEAR, b" y")
-    } else if seconds >= 2 * DAY {
+    } else if most >= DAY {
         (DAY, b" d")
-    } else if seconds >= 2 * HOUR {
+    } else if most >= HOUR {
         (HOUR, b" h")
-    } else if seconds >= 2 * MINUTE {
+    } else if most >= MINUTE {
         (MINUTE, b" min")
     } else {
         (1, b" s")
     }
+}
+
+// Appends some seconds in a unit.
+fn append_in<A: Allocator>(
+    unit: (u32, &'static [u8]),
+    seconds: u32,
+    out: &mut Vec<u8, A>,
+) -> Result<(), NoMemory>
+    requires { 0 < unit.0 }
+    ensures { AppendedPart (in_unit (unit.entry.0, unit.entry.1.now) seconds) out.old out.new result }
+{
+    append_labelled(b"", seconds / unit.0, out)?;
+    append(unit.1, out)
 }
 
 // Appends some seconds in their unit.
@@ -40,9 +53,30 @@ fn unit_of(seconds: u32) -> (u32, &'static [u8])
 fn append_span<A: Allocator>(seconds: u32, out: &mut Vec<u8, A>) -> Result<(), NoMemory>
     ensures { AppendedPart (span seconds) out.old out.new result }
 {
-    let (unit, word) = unit_of(seconds);
-    append_labelled(b"", seconds / unit, out)?;
-    append(word, out)
+    append_in(unit_within(seconds / 2), seconds, out)
+}
+
+// Appends what a unit leaves of some seconds, in the next smaller one.
+#[tactic(auto, unfolding(crate::specs::Ago::rest))]
+fn append_rest<A: Allocator>(unit: u32, seconds: u32, out: &mut Vec<u8, A>) -> Result<(), NoMemory>
+    requires { 0 < unit }
+    ensures { AppendedPart (rest unit seconds) out.old out.new result }
+{
+    let smaller = unit_within(unit - 1);
+    if seconds / unit >= 10 || seconds % unit < smaller.0 {
+        return Ok(());
+    }
+    append(b" ", out)?;
+    append_in(smaller, seconds % unit, out)
+}
+
+// Appends a time to come.
+fn append_ahead<A: Allocator>(seconds: u32, out: &mut Vec<u8, A>) -> Result<(), NoMemory>
+    ensures { AppendedPart (ahead seconds) out.old out.new result }
+{
+    append(b"in ", out)?;
+    append_span(seconds, out)?;
+    append_rest(unit_within(seconds / 2).0, seconds, out)
 }
 
 /// Appends how long ago a time is, or how far ahead.
@@ -56,8 +90,7 @@ pub fn append_ago<A: Allocator>(now: u32, time: u32, out: &mut Vec<u8, A>) -> Re
         append_span(now - time, out)?;
         return append(b" ago", out);
     }
-    append(b"in ", out)?;
-    append_span(time - now, out)
+    append_ahead(time - now, out)
 }
 
 /// Appends the same, or `-` for the time 0.

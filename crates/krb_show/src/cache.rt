@@ -1,45 +1,80 @@
 //! A credential cache as it is shown to people.
 
-ghost use Rattle.std.specs.Prelude.{◌≡◌, ◌++◌, IfOk, OnOk, length};
-ghost use Rattle.krb_ccache.specs.Store.{placed_credentials};
-ghost use Rattle.krb_show.specs.CacheView.{cache_heading, cache_view, tickets};
+ghost use Rattle.std.specs.Prelude.{◌≡◌, ◌++◌, OnOk};
+ghost use Rattle.krb_show.specs.CacheView.{cache_heading, cache_notes, cache_title, cache_view, offset_note};
 
 use crate::columns::{Rows, append_counted, append_line, append_table, widened_by};
+use crate::heading::{append_count_note, append_mode_note};
+use crate::seen::{Judgement, judge};
 use crate::tickets::TicketRow;
-use krb_ccache::{Ccache, is_config};
+use itoa::Buffer;
+use krb_ccache::{Ccache, Offset, is_config};
 use krb_text::{append, append_byte, append_fault_line};
 use krb_wire::{NoMemory, PrincipalView, write_name};
 use std::alloc::Allocator;
 
 const TITLES: [&[u8]; 5] = [b"ENDS", b"RENEW", b"SESSION", b"TICKET", b"SERVICE"];
 
-fn append_heading<A: Allocator>(
+// Appends the clock's offset from the KDC's, unless it is 0 seconds.
+fn append_offset<A: Allocator>(offset: Option<Offset>, out: &mut Vec<u8, A>) -> Result<(), NoMemory>
+    ensures { OnOk result (out.new.items ≡ out.old.items ++ offset_note offset) }
+{
+    let Some(offset) = offset else {
+        return Ok(());
+    };
+    if offset.seconds == 0 {
+        return Ok(());
+    }
+    append(b", clock offset ", out)?;
+    append(Buffer::new().format(offset.seconds).as_bytes(), out)?;
+    append(b" s", out)
+}
+
+// Appends what is said of a cache.
+fn append_notes<A: Allocator>(
+    said: Judgement,
+    offset: Option<Offset>,
+    mode: Option<u32>,
+    out: &mut Vec<u8, A>,
+) -> Result<(), NoMemory>
+    ensures { OnOk result (out.new.items ≡ out.old.items ++ cache_notes said offset mode) }
+{
+    append(if said.is_expired { b", expired!" } else { b"" }, out)?;
+    append_count_note(said.weak, b" weak!", out)?;
+    append_offset(offset, out)?;
+    append_mode_note(mode, out)
+}
+
+// Appends the heading up to the number of tickets.
+fn append_title<A: Allocator>(
     name: &[u8],
     principal: &PrincipalView<'_>,
     count: usize,
     out: &mut Vec<u8, A>,
 ) -> Result<(), NoMemory>
-    ensures { OnOk result (out.new.items ≡ out.old.items ++ cache_heading name.now principal.now count) }
+    ensures { OnOk result (out.new.items ≡ out.old.items ++ cache_title name.now principal.now count) }
 {
     append(name, out)?;
     append(b": cache of ", out)?;
     write_name(principal, out)?;
     append(b", ", out)?;
-    append_counted(count, b"ticket", out)?;
-    append_byte(b'\n', out)
+    append_counted(count, b"ticket", out)
 }
 
-// Returns the number of tickets.
-fn ticket_count<B: Allocator>(cache: &Ccache<B>) -> Result<usize, NoMemory>
-    ensures { IfOk result (λ n. n ≡ length (tickets (placed_credentials cache.now.state))) }
+#[tactic(auto, unfolding(crate::specs::CacheView::cache_heading))]
+fn append_heading<A: Allocator>(
+    name: &[u8],
+    principal: &PrincipalView<'_>,
+    said: Judgement,
+    offset: Option<Offset>,
+    mode: Option<u32>,
+    out: &mut Vec<u8, A>,
+) -> Result<(), NoMemory>
+    ensures { OnOk result (out.new.items ≡ out.old.items ++ cache_heading name.now principal.now said offset mode) }
 {
-    let mut count: usize = 0;
-    'credentials: for (_, credential) in cache.credentials() {
-        if !is_config(&credential) {
-            count = count.checked_add(1).ok_or(NoMemory)?;
-        }
-    }
-    Ok(count)
+    append_title(name, principal, said.count, out)?;
+    append_notes(said, offset, mode, out)?;
+    append_byte(b'\n', out)
 }
 
 // The rows of the tickets of a cache at a second.
@@ -87,20 +122,28 @@ impl<A: Allocator + Copy, B: Allocator> Rows<A> for TicketRows<'_, B> {
     }
 }
 
-/// Appends what is shown of a cache: a heading with the file's name, a table of its tickets as they are at the second
-/// `now`, and the line of the fault if the cache is damaged.
+/// Appends what is shown of a cache: a heading with the file's name and what is said of it and of its `mode`, a table of
+/// its tickets as they are at the second `now`, and the line of the fault if the cache is damaged.
 pub fn append_cache_view<A: Allocator + Copy, B: Allocator>(
     alloc: A,
     name: &[u8],
     now: u32,
+    mode: Option<u32>,
     cache: &Ccache<B>,
     out: &mut Vec<u8, A>,
 ) -> Result<(), NoMemory>
-    ensures { OnOk result (out.new.items ≡ out.old.items ++ cache_view name.now now cache.now.state) }
+    ensures { OnOk result (out.new.items ≡ out.old.items ++ cache_view name.now now mode cache.now.state) }
 {
-    let count = ticket_count(cache)?;
-    append_heading(name, &cache.default_principal(), count, out)?;
+    let said = judge(now, cache)?;
+    append_heading(
+        name,
+        &cache.default_principal(),
+        said,
+        cache.offset(),
+        mode,
+        out,
+    )?;
     let rows = TicketRows { clock: now, cache };
-    append_table(alloc, &TITLES, count, &rows, out)?;
+    append_table(alloc, &TITLES, said.count, &rows, out)?;
     append_fault_line(cache.fault(), out)
 }

@@ -1,7 +1,8 @@
 //! Short names of encryption types.
 
+ghost use Rattle.std.specs.Prelude.{◌≡◌};
 ghost use Rattle.krb_wire.specs.Text.{AppendedPart};
-ghost use Rattle.krb_show.specs.EtypeNames.{encryption_cell, etype_cell, short_name, wide_etype_cell};
+ghost use Rattle.krb_show.specs.EtypeNames.{encryption_cell, etype_cell, has_weak_encryption, short_name, wide_etype_cell};
 
 use itoa::Buffer;
 use krb_ccache::TicketEncryption;
@@ -38,6 +39,19 @@ fn append_wide_etype<A: Allocator>(etype: i32, out: &mut Vec<u8, A>) -> Result<(
     match u16::try_from(etype).ok() {
         Some(etype) => append_etype(etype, out),
         None => append(Buffer::new().format(etype).as_bytes(), out),
+    }
+}
+
+/// Returns whether a ticket is encrypted by a weak enctype.
+pub fn has_weak_encryption(encryption: Option<TicketEncryption>) -> bool
+    ensures { result ≡ has_weak_encryption encryption }
+{
+    let Some(encryption) = encryption else {
+        return false;
+    };
+    match u16::try_from(encryption.etype).ok() {
+        Some(etype) => is_weak(etype),
+        None => false,
     }
 }
 

@@ -1,7 +1,6 @@
 //! The rows of keys.
 
 ghost use Rattle.std.specs.Prelude.{◌≡◌, ◌++◌, IfOk, OnOk, [], codes, true, if◌then◌else◌};
-ghost use Rattle.krb_wire.specs.Names.{name_text};
 ghost use Rattle.krb_show.specs.EtypeNames.{etype_cell};
 ghost use Rattle.krb_show.specs.KeytabView.{distinct, keys_cell, more_types, spaced};
 
@@ -91,26 +90,12 @@ fn append_keys<A: Allocator + Copy>(
     Ok(())
 }
 
-/// The row of a line at a second. The name is on the first of its lines, that of the newest version.
+/// The row of a line at a second.
 #[derive(Drop)]
 pub struct KeyRow<'l, 'a, A: Allocator> {
     pub clock: u32,
     pub key: &'l LineKey,
     pub line: &'l Line<'a, A>,
-}
-
-impl<A: Allocator> KeyRow<'_, '_, A> {
-    // Appends the name, but not that of an old version.
-    fn append_name<B: Allocator>(&self, out: &mut Vec<u8, B>) -> Result<(), NoMemory>
-        ensures { OnOk result (out.new.items
-            ≡ out.old.items ++ (if self.now.key.now.1 then [] else name_text self.now.line.now.principal)) }
-    {
-        let line = self.line;
-        if self.key.1 {
-            return Ok(());
-        }
-        line.append_name(out)
-    }
 }
 
 impl<A: Allocator + Copy> Row<A> for KeyRow<'_, '_, A> {
@@ -119,7 +104,7 @@ impl<A: Allocator + Copy> Row<A> for KeyRow<'_, '_, A> {
     ghost cells = { λ row. key_row row.clock (row.key.now, row.line.now) };
 
     fn cell_count(&self) -> usize {
-        if self.key.1 { 3 } else { 4 }
+        4
     }
 
     fn append_cell(&self, alloc: A, column: usize, out: &mut Vec<u8, A>) -> Result<(), NoMemory> {
@@ -128,7 +113,7 @@ impl<A: Allocator + Copy> Row<A> for KeyRow<'_, '_, A> {
             0 => append_labelled(b"", self.key.2.0, out),
             1 => append_time(self.clock, line.added, out),
             2 => append_keys(alloc, self.key.1, &line.etypes, out),
-            3 => self.append_name(out),
+            3 => line.append_name(out),
             _ => Ok(()),
         }
     }

@@ -5,9 +5,11 @@ mod ago;
 mod cache;
 mod columns;
 mod etypes;
+mod heading;
 mod keys;
 mod keytab;
 mod lines;
+mod seen;
 mod tickets;
 
 pub use cache::append_cache_view;

@@ -4,10 +4,12 @@ ghost use Rattle.std.specs.Prelude.{[], ◌≡◌, ◌+◌, ◌++◌, ◌∷◌,
 ghost use Rattle.krb_wire.specs.Names.{name_text};
 ghost use Rattle.krb_keytab.specs.Entry.{entry_at};
 ghost use Rattle.krb_keytab.specs.Find.{PlacedEntry, placed_entries};
+ghost use Rattle.krb_keytab.specs.Store.{KeytabState};
+ghost use Rattle.krb_audit.specs.Tally.{tally_of};
 ghost use Rattle.krb_show.specs.KeytabView.{grown, lines_of, put_entry};
 ghost use Rattle.krb_show.specs.Lines.{AreSoFar};
 
-use krb_audit::{SelectedKvno, Standings};
+use krb_audit::{Ranks, Tally};
 use krb_keytab::{EntryView, Keytab, KtCell, read_entry};
 use krb_wire::{KtFormat, NoMemory, write_name};
 use std::alloc::Allocator;
@@ -101,34 +103,37 @@ pub fn one_more(count: usize) -> Result<usize, NoMemory>
     count.checked_add(1).ok_or(NoMemory)
 }
 
-// The lines of the entries so far, and the standings of those to come: old ones are selected.
+// The lines and the numbers of the entries so far, and the ranks of those to come.
 #[derive(Drop)]
 struct SoFar<'a, A: Allocator> {
-    standings: Standings<A>,
+    ranks: Ranks<A>,
+    tally: Tally,
     lines: Lines<'a, A>,
 }
 
 impl<'a, A: Allocator + Copy> SoFar<'a, A> {
     // Returns what is known before the first entry.
     fn of<B: Allocator>(alloc: A, keytab: &Keytab<B>) -> Result<SoFar<'a, A>, NoMemory>
-        ensures { IfOk result (AreSoFar (placed_entries keytab.now.state) (placed_entries keytab.now.state)) }
+        ensures { IfOk result (AreSoFar keytab.now.state (placed_entries keytab.now.state)) }
     {
         Ok(SoFar {
-            standings: Standings::of(alloc, keytab, SelectedKvno::Old(None), 0)?,
+            ranks: Ranks::of(alloc, keytab)?,
+            tally: Tally::none(),
             lines: BTreeMap::new(alloc),
         })
     }
 
     // Adds the entry of the next record.
     fn add(&mut self, alloc: A, format: KtFormat, record: &'a [u8]) -> Result<(), NoMemory>
-        ensures { (all rest : List PlacedEntry) (x : PlacedEntry) → entry_at format record.now ≡ Some x.1
-            → AreSoFar all (x ∷ rest) self.old → OnOk result (AreSoFar all rest self.new) }
+        ensures { (k : KeytabState) (rest : List PlacedEntry) (x : PlacedEntry) → entry_at format record.now ≡ Some x.1
+            → AreSoFar k (x ∷ rest) self.old → OnOk result (AreSoFar k rest self.new) }
     {
         let Some(entry) = read_entry(format, record) else {
             return Ok(());
         };
-        let (first, is_old) = self.standings.take();
-        let key = (first, is_old, Reverse(entry.kvno()));
+        let rank = self.ranks.take();
+        self.tally.add(rank, entry.enctype())?;
+        let key = (rank.first, rank.is_old, Reverse(entry.kvno()));
         put_entry(
             key,
             Line::of(alloc, format, record),
@@ -138,21 +143,22 @@ impl<'a, A: Allocator + Copy> SoFar<'a, A> {
     }
 }
 
-/// Returns the lines of a keytab's entries, and how many entries it has.
+/// Returns the lines of a keytab's entries, how many entries it has, and the numbers of weak and old ones.
 pub fn lines_of<'a, A: Allocator + Copy, B: Allocator>(
     alloc: A,
     keytab: &'a Keytab<B>,
-) -> Result<(Lines<'a, A>, usize), NoMemory>
+) -> Result<(Lines<'a, A>, usize, Tally), NoMemory>
     ensures lines { IfOk result (λ made. made.0.entries ≡ lines_of (placed_entries keytab.now.state)) }
     ensures count { IfOk result (λ made. made.1 ≡ length (placed_entries keytab.now.state)) }
+    ensures tally { IfOk result (λ made. made.2 ≡ tally_of keytab.now.state) }
 {
     let mut so_far = SoFar::of(alloc, keytab)?;
-    let count = so_far.standings.len();
+    let count = so_far.ranks.len();
     let format = keytab.format();
     for (_place, cell) in keytab.cells() {
         if let KtCell::Live(record) = cell {
             so_far.add(alloc, format, record)?;
         }
     }
-    Ok((so_far.lines, count))
+    Ok((so_far.lines, count, so_far.tally))
 }

@@ -3,7 +3,7 @@
 ghost use Rattle.std.specs.Prelude.{◌≡◌, ◌++◌, OnOk};
 ghost use Rattle.krb_wire.specs.Names.{name_text};
 ghost use Rattle.krb_wire.specs.Text.{AppendedPart};
-ghost use Rattle.krb_show.specs.CacheView.{end_cell, service, start};
+ghost use Rattle.krb_show.specs.CacheView.{end_cell, is_invalid, service, start};
 
 use crate::ago::{append_ago, append_time};
 use crate::columns::Row;
@@ -22,14 +22,24 @@ fn start(ticket: &CredView<'_>) -> u32
     }
 }
 
-// Appends when a ticket ends, or that it has ended, or when it starts.
+// The flag INVALID.
+const INVALID: u32 = 0x0100_0000;
+
+// Returns whether the flag INVALID is set among those of a ticket.
+fn is_invalid(flags: u32) -> bool
+    ensures { result ≡ is_invalid flags }
+{
+    flags & INVALID != 0
+}
+
+// Appends when a ticket ends, or that it has ended, or when it starts, or that it is invalid.
 #[tactic(auto, unfolding(crate::specs::CacheView::end_cell))]
 fn append_end<A: Allocator>(
     now: u32,
     ticket: &CredView<'_>,
     out: &mut Vec<u8, A>,
 ) -> Result<(), NoMemory>
-    ensures { AppendedPart (end_cell now ticket.now.times) out.old out.new result }
+    ensures { AppendedPart (end_cell now ticket.now.times ticket.now.flags) out.old out.new result }
 {
     let end = ticket.endtime();
     if end == 0 {
@@ -43,6 +53,9 @@ fn append_end<A: Allocator>(
     if now < start {
         append(b"starts ", out)?;
         return append_ago(now, start, out);
+    }
+    if is_invalid(ticket.flags()) {
+        return append(b"invalid", out);
     }
     append_ago(now, end, out)
 }

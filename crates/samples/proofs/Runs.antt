@@ -166,9 +166,11 @@ klist_silent explains now files ws =
     let status = if file.is_other_type then 1 else check_status (now + check.seconds) (loaded (files file.name.now) most_bytes) in
     record { out = []; err = []; status = status; files = files })
 
--- at a second
-abbrev pub show : Bool → ℕ → FileMap → Matched → Seen
-show explains now files ws = by_words explains (codes "show") files (show_of ws) (λ o. over_all explains (show_plan o.v1_order now) printed_after false files (operands ws Either))
+-- at a second; the files are plain with this mode
+abbrev pub show : Bool → ℕ → ℕ → FileMap → Matched → Seen
+show explains mode now files ws =
+    by_words explains (codes "show") files (show_of ws) (λ o.
+    over_all explains (λ is_after file. show_plan o.v1_order now is_after file (Some mode)) printed_after false files (operands ws Either))
 
 abbrev pub ktfind : Bool → FileMap → Matched → Seen
 ktfind explains files ws = by_words explains (codes "ktfind") files (entry_sought_of ws) (λ o. follows explains files (ktfind_plan o (named false Keytab (ws.operand (codes "FILE")))))

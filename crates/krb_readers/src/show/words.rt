@@ -20,7 +20,7 @@ pub const SHOW: CommandWords = CommandWords {
         "\
 Without FILE it shows the cache that KRB5CCNAME names, else /tmp/krb5cc_UID; with -k
 the keytab that KRB5_KTNAME names, else /etc/krb5.keytab. Its form may change; scripts
-take klist. Behind a weak encryption type stands !.
+take klist. ! marks a weak encryption type.
 Statuses:
   0  The files were shown
   1  A file is missing, too large, damaged, or neither a keytab nor a cache
