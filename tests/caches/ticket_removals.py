@@ -27,8 +27,8 @@ def tickets(*servers: tuple[bytes, ...]) -> list[Credential]:
 
 # Tickets that `--all-services` asks for, the lines that report them, and tickets that it does not ask for.
 SERVICES = tickets((), (b"", b"krbtgt"), (b"KRBTGT", b"R"), (b"krbtgts",), (b"krbtgt/R",))
-TOLD = ["removed 22 @R", "removed 115 /krbtgt@R", "removed 222 KRBTGT/R@R", "removed 330 krbtgts@R",
-        r"removed 434 krbtgt\/R@R"]
+REMOVED = ["removed 22 @R", "removed 115 /krbtgt@R", "removed 222 KRBTGT/R@R", "removed 330 krbtgts@R",
+           r"removed 434 krbtgt\/R@R"]
 GRANTING = tickets((b"krbtgt",), (b"krbtgt", b"S"), (b"krbtgt", b"a", b"b"))
 
 # A user's credentials as gssproxy keeps them, which only their name asks for.
@@ -59,7 +59,7 @@ CASES = [
     remove("--expired --all-services", [AT_392], TICKET, PA_TYPE, LATER, LATER_HOST),
     remove("--all-services -p krbtgt/R@R -p host/a@R -n", [AT_392, AT_606]),
     remove("--all-services -p krbtgt/R@R", message(1, "c: refused 9")),
-    over("services alone", "ccremove --all-services c", cache(*SERVICES, *GRANTING, PA_TYPE), TOLD,
+    over("services alone", "ccremove --all-services c", cache(*SERVICES, *GRANTING, PA_TYPE), REMOVED,
          cache(*GRANTING, PA_TYPE)),
     *(over(f"gssproxy's alone by {words}", f"ccremove {words} c", cache(KEPT), wanted) for words, wanted in (
         ("--expired", []), (f"--expired {BY_NAME}", []), ("--all-services", message(1, "c: refused 9")),

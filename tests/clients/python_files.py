@@ -27,7 +27,7 @@ for load, *paths in ((Keytab.load, "none", "", "FILE:", b"folder", "k/none", "ci
 print(sorted(os.listdir()))
 """
 
-# The files of other programs: how many there are, and those of which a walk gives other entries or tickets than klist
+# The files of other programs: how many there are, and those where a walk gives other entries or tickets than klist
 # prints, or ends elsewhere.
 WALKS = f"FOLDER = {FOLDER!r}" + """
 import json, subprocess

@@ -13,7 +13,7 @@ LENGTHS = [END, b"\0", b"\0\0\0\1", b"\x7f\xff\xff\xff", b"\x80\0\0\0", b"\xff\x
 
 
 def random_bytes(random: Random, most: int) -> bytes:
-    """Returns bytes, many of which are quoted in names."""
+    """Returns bytes. Names quote many of them."""
     return bytes(random.choices(b"/@\\\n\t\b\0abcxyz\xff\xc3\xa9 ", k=random.randrange(most + 1)))
 
 

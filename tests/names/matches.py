@@ -92,7 +92,7 @@ NAMES = {it: name_of(it) for it in ("host/a@S", "host/A@R", "host/a/@R", "host@R
 NAMELESS = [ticket(encrypted(b"\x11", b"\3"), TICKET_VERSION + bytes.fromhex(it)) for it in (
     "a100 a200", "a1030c0152 a20e300c a003020101 a10530031b0163", "a1031b0152 a210300e a003020101 a10730051b01630c00")]
 
-# Tickets, of which some caches have another server.
+# Tickets. Some caches have another server.
 OWN = [*((ticket_of(name), said("name", 3, 17, name=text)) for text, name in NAMES.items()),
        (ticket_of(replace(A, name_type=99)), OPENS), (ticket_of(A, server=C), OPENS),
        (ticket_of(A, server=REFERRED), OPENS), (ticket_of(C, server=A), NO_C),
