@@ -12,7 +12,7 @@ pub use Rattle.krb_keytab.specs.Entry.{EntryParts, entry_at}
 pub use Rattle.krb_show.specs.KeytabView.{LineKey, LineParts, line_key, lines_from, put_entry, key_row, line_cmp, spaced, with_number, name_count, grown, with_entry}
 pub use Rattle.krb_show.specs.Lines.{AreSoFar}
 pub use Rattle.krb_show.specs.Seen.{SeesSoFar}
-pub use Rattle.krb_show.specs.Columns.{asked_width, cell_of, row_text, widths, cells_behind, counted, column_width}
+pub use Rattle.krb_show.specs.Columns.{asked_width, cell_of, row_text, padded_width, widths_to, cells_behind, counted}
 pub use Rattle.krb_show.specs.CacheView.{ticket_row, tickets}
 pub use Rattle.krb_keytab.specs.Entries.{entries_in}
 pub use Rattle.std.specs.BTreeSet.{BTreeSet, contains}

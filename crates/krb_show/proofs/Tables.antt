@@ -1,13 +1,13 @@
 -- Widths found column by column, and rows appended cell by cell.
-use Rattle.krb_show.proofs.Cited.{◌≡◌, ◌++◌, ◌∙◌, ◌+◌, ◌-◌, ap, sym, refl, ℕ, List, [], ◌∷◌, length, append_assoc, append-nil, ◌⊎◌, inl, inr, replicate, arith, cells_behind, column_width, widths}
+use Rattle.krb_show.proofs.Cited.{◌≡◌, ◌++◌, ◌∙◌, ◌+◌, ◌-◌, ap, sym, refl, ℕ, List, [], ◌∷◌, length, append_assoc, append-nil, ◌⊎◌, inl, inr, replicate, arith, cells_behind, padded_width, widths_to}
 use Rattle.std.proofs.lemmas.List.FromFn.{map-range_with_len_more}
 
 -- the width of one more column
-pub more_columns : (n w : ℕ) (rows : List (List (List ℕ))) (new old : List ℕ) → new ≡ old ++ w ∷ [] → w ≡ column_width n rows
-    → old ≡ widths n rows → new ≡ widths (n + 1) rows
-more_columns n w rows new old is_new is_width is_old =
-    is_new ∙ ap (λ (l : List ℕ). l ++ w ∷ []) is_old ∙ ap (λ (k : ℕ). widths n rows ++ k ∷ []) is_width
-    ∙ sym (map-range_with_len_more (λ k. column_width k rows) 0 n n (omega arith))
+pub more_columns : (last n w : ℕ) (rows : List (List (List ℕ))) (new old : List ℕ) → new ≡ old ++ w ∷ [] → w ≡ padded_width last n rows
+    → old ≡ widths_to last n rows → new ≡ widths_to last (n + 1) rows
+more_columns last n w rows new old is_new is_width is_old =
+    is_new ∙ ap (λ (l : List ℕ). l ++ w ∷ []) is_old ∙ ap (λ (k : ℕ). widths_to last n rows ++ k ∷ []) is_width
+    ∙ sym (map-range_with_len_more (λ k. padded_width last k rows) 0 n n (omega arith))
 
 -- the next cell was appended behind its blanks
 pub put_cell : (before after whole : List ℕ) (blanks next w : ℕ) (ws vs cell : List ℕ) (cs ds : List (List ℕ))

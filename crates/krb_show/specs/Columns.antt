@@ -14,9 +14,17 @@ asked_width cell = if nat_le (length cell) 40 then length cell else 0
 abbrev pub column_width : ℕ → List (List (List ℕ)) → ℕ
 column_width column rows = fold (λ width row. max width (asked_width (cell_of column row))) 0 rows
 
+-- the width of a column, but none of the last: nothing is behind it
+abbrev pub padded_width : ℕ → ℕ → List (List (List ℕ)) → ℕ
+padded_width last column rows = if column == last then 0 else column_width column rows
+
 -- the widths of the first columns
+abbrev pub widths_to : ℕ → ℕ → List (List (List ℕ)) → List ℕ
+widths_to last n rows = map (λ column. padded_width last column rows) (range_with_len 0 n)
+
+-- the widths of columns
 abbrev pub widths : ℕ → List (List (List ℕ)) → List ℕ
-widths n rows = map (λ column. column_width column rows) (range_with_len 0 n)
+widths n rows = widths_to (n - 1) n rows
 
 -- cells of a row after some blanks: each is filled up to its column's width, and two blanks are between columns
 abbrev pub cells_behind : ℕ → List ℕ → List (List ℕ) → List ℕ

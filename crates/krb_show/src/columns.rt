@@ -2,7 +2,7 @@
 
 ghost use Rattle.std.specs.Prelude.{◌≡◌, ◌-◌, ◌+◌, ◌++◌, ◌∷◌, IfOk, OnOk, length, map, max, replicate};
 ghost use Rattle.std.specs.List.{fold, flat_map};
-ghost use Rattle.krb_show.specs.Columns.{asked_width, cell_of, cells_behind, counted, row_text, table, widths};
+ghost use Rattle.krb_show.specs.Columns.{asked_width, cell_of, cells_behind, counted, padded_width, row_text, table, widths};
 
 use itoa::Buffer;
 use krb_text::{append, append_byte};
@@ -92,6 +92,24 @@ pub fn widened_by<A: Allocator + Copy, R: Row<A>>(
     Ok(width.max(asked_width(cell)))
 }
 
+// Returns the width of a column, but none of the last: nothing is behind it.
+fn padded_width<A: Allocator + Copy, T: Rows<A>>(
+    alloc: A,
+    titles: &[&[u8]],
+    column: usize,
+    rows: &T,
+    cell: &mut Vec<u8, A>,
+) -> Result<usize, NoMemory>
+    ensures { IfOk result (λ width. width
+        ≡ padded_width (length titles.now - 1) column (map (λ title. title.now) titles.now ∷ T.rows rows.now)) }
+{
+    if column == titles.len().saturating_sub(1) {
+        return Ok(0);
+    }
+    let least = widened_by(alloc, column, 0, &Titles(titles), cell)?;
+    rows.widened(alloc, column, least)
+}
+
 // Returns the widths of the columns of a table.
 fn widths<A: Allocator + Copy, T: Rows<A>>(
     alloc: A,
@@ -104,8 +122,7 @@ fn widths<A: Allocator + Copy, T: Rows<A>>(
     let mut all = Vec::new(alloc);
     let mut cell = Vec::new(alloc);
     'columns: for column in 0..titles.len() {
-        let least = widened_by(alloc, column, 0, &Titles(titles), &mut cell)?;
-        all.push(rows.widened(alloc, column, least)?)?;
+        all.push(padded_width(alloc, titles, column, rows, &mut cell)?)?;
     }
     Ok(all)
 }
