@@ -4,3 +4,7 @@ pub mod Numbered
 pub mod Places
 pub mod MarkedNames
 pub mod SameNames
+pub mod PatternLemmas
+pub mod StarredLemmas
+pub mod AskedLemmas
+pub mod PatternLaws

@@ -3,4 +3,7 @@ pub mod Hash
 pub mod Numbers
 pub mod Set
 pub mod Marks
+pub mod Patterns
+pub mod Asked
+pub mod Laws
 pub mod Twins
