@@ -21,9 +21,9 @@ pub use Rattle.krb_audit.specs.CheckUp.{holes, counts_at, uncounted, added_once,
 pub use Rattle.krb_audit.specs.Report.{finding_lines, octal, missing_line, finding_line, name_line}
 pub use Rattle.krb_audit.specs.Rows.{first_number, AreRows, AreNumbered, IsNameKey, name_in, stamp_of, row_in, shown, stamped, newer_stamp}
 pub use Rattle.krb_names.specs.Hash.{HashedName, hash_of, name_cmp}
-pub use Rattle.krb_audit.specs.Selection.{has_selected_kvno, is_named, is_young, AsksFor, has_text}
+pub use Rattle.krb_audit.specs.Selection.{has_selected_kvno, is_named, is_young}
 pub use Rattle.krb_audit.specs.declared.rows.Row.{Row}
-pub use Rattle.krb_audit.specs.declared.selection.SelectedKvno.TheVariants.{Old, Exactly, Any, Newest}
+pub use Rattle.krb_audit.specs.declared.selection.SelectedKvno.TheVariants.{Beyond, Exactly, Any, Newest}
 pub use Rattle.krb_audit.specs.declared.newest.Stamp.{Stamp}
 pub use Rattle.krb_keytab.specs.CellViews.{cell_of, cells_of, CellsFrom, BeginsWith}
 pub use Rattle.krb_keytab.specs.Cells.{size, Free, Cell}

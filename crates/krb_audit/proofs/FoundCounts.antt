@@ -1,14 +1,15 @@
 -- The entries of which a check has a finding are as many as have it.
-use Rattle.krb_audit.proofs.Cited.{◌≡◌, ◌≢◌, ◌∙◌, sym, refl, arith, ℕ, ◌+◌, Bool, true, false, true≢false, not, ◌==◌, List, [], ◌∷◌, ◌++◌, length, filter, PlacedEntry, placed_entries, CheckAsked, Marked, mapped_after, has_some, KeytabState}
+use Rattle.krb_audit.proofs.Cited.{◌≡◌, ◌≢◌, ◌∙◌, sym, refl, arith, ℕ, ◌+◌, Bool, true, false, true≢false, not, ◌==◌, List, [], ◌∷◌, ◌++◌, length, map, cond, filter, PlacedEntry, placed_entries, CheckAsked, Marked, mapped_after, has_some, KeytabState}
 use Rattle.std.specs.Prelude.{◌^◌, bit_and, bit_or, if◌then◌else◌}
 use Rattle.std.specs.Int.{bit_at}
 use Rattle.std.proofs.lemmas.Nat.Bits.{and_pow, bit_at_or, bit_at-pow_other, bit_at-pow_same, bit_at-zero}
 use Rattle.krb_findings.specs.declared.finding.Finding.{Finding}
-use Rattle.krb_findings.specs.declared.finding.Finding.TheVariants.{Weak, Old, Nostrong}
+use Rattle.krb_findings.specs.declared.finding.Finding.TheVariants.{Weak, Same, Old, Nostrong}
 use Rattle.krb_findings.specs.declared.finding_set.FindingSet.{FindingSet}
 use Rattle.krb_findings.specs.Table.{has, set_of}
-use Rattle.krb_audit.specs.Findings.{is_found, marks_of, nothing_asked}
-use Rattle.krb_audit.specs.Laws.{CountsFindings}
+use Rattle.krb_audit.specs.Findings.{first_alike, is_found, marks_of, nothing_asked, repeats}
+use Rattle.krb_audit.specs.Ranks.{kept_after}
+use Rattle.krb_audit.specs.Laws.{CountsFindings, SelectsSame}
 
 -- ---- the findings in a set that is made of them
 
@@ -36,6 +37,11 @@ module _ (test : Finding → Bool) where
   has_weak = has_by (set_of test).bits 0 (test Weak) (
       other _ 11 0 _ (apart 0 11 refl) ∙ other _ 10 0 _ (apart 0 10 refl) ∙ other _ 7 0 _ (apart 0 7 refl) ∙ other _ 4 0 _ (apart 0 4 refl) ∙ other _ 3 0 _ (apart 0 3 refl)
       ∙ other _ 2 0 _ (apart 0 2 refl) ∙ other _ 1 0 _ (apart 0 1 refl) ∙ other _ 6 0 _ (apart 0 6 refl) ∙ same 0 0 (test Weak) (bit_at-zero 0))
+
+  has_same : has (set_of test) Same ≡ test Same
+  has_same = has_by (set_of test).bits 2 (test Same) (
+      other _ 11 2 _ (apart 2 11 refl) ∙ other _ 10 2 _ (apart 2 10 refl) ∙ other _ 7 2 _ (apart 2 7 refl) ∙ other _ 4 2 _ (apart 2 4 refl) ∙ other _ 3 2 _ (apart 2 3 refl)
+      ∙ same _ 2 (test Same) (other _ 1 2 _ (apart 2 1 refl) ∙ other _ 6 2 _ (apart 2 6 refl) ∙ other 0 0 2 (test Weak) (apart 2 0 refl) ∙ bit_at-zero 2))
 
   has_old : has (set_of test) Old ≡ test Old
   has_old = has_by (set_of test).bits 4 (test Old) (
@@ -81,3 +87,20 @@ counts_old mode asked k = counts Old asked k (λ before x. has_old (is_found ask
 
 pub counts_nostrong : CountsFindings Nostrong
 counts_nostrong mode asked k = counts Nostrong asked k (λ before x. has_nostrong (is_found asked k before x)) [] (placed_entries k)
+
+-- ---- the entries that repeat an earlier one
+
+one_same : (m : Marked) (ms : List Marked) (xs : List PlacedEntry) (b some : Bool) → has m.1.findings Same ≡ b → has_some m.1.findings ≡ some → xs ≡ map (λ m. m.0) (with_finding Same ms) → cond b (m.0 ∷ xs) xs ≡ map (λ m. m.0) (with_finding Same (m ∷ ms))
+one_same m ms xs true true is is_some so_far = grind (arith, is, is_some, so_far)
+one_same m ms xs true false is is_some so_far = absurd (true≢false (sym (some_if m.1.findings Same is) ∙ is_some))
+one_same m ms xs false true is is_some so_far = grind (arith, is, is_some, so_far)
+one_same m ms xs false false is is_some so_far = grind (arith, is, is_some, so_far)
+
+module _ (asked : CheckAsked) (k : KeytabState) where
+  same_kept : (before xs : List PlacedEntry) → kept_after (λ ys x. repeats (first_alike ys x)) before xs ≡ map (λ m. m.0) (with_finding Same (mapped_after (λ ys x. (x, marks_of asked k ys x)) before xs))
+  same_kept before [] = refl
+  same_kept before (x ∷ xs) =
+      one_same (x, marks_of asked k before x) (mapped_after (λ ys y. (y, marks_of asked k ys y)) (before ++ x ∷ []) xs) (kept_after (λ ys y. repeats (first_alike ys y)) (before ++ x ∷ []) xs) (repeats (first_alike before x)) _ (has_same (is_found asked k before x)) refl (same_kept (before ++ x ∷ []) xs)
+
+pub selects_same : SelectsSame
+selects_same mode asked now k = same_kept asked k [] (placed_entries k)

@@ -4,6 +4,8 @@ pub mod Numbering
 pub mod RowLemmas
 pub mod NewestStamps
 pub mod StandingLemmas
+pub mod LeftLemmas
+pub mod KeptLaws
 pub mod RankLemmas
 pub mod TallyLemmas
 pub mod FoundCounts
@@ -12,7 +14,6 @@ pub mod FirstsLemmas
 pub mod FindingsLemmas
 pub mod Octal
 pub mod MissingLemmas
-pub mod AskedNames
 pub mod CountsLemmas
 pub mod WeakNumbers
 pub mod NewestLemmas

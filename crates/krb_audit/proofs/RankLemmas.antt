@@ -36,7 +36,7 @@ first_here t n i m (y ∷ ys) rest x len at is = grind (arith, len, at, is, eqb-
 newest_is : (o : Option EntryParts) → option_map_or (λ s. s.kvno) (option_map stamp_of o) 0 ≡ option_map_or (λ e. e.version) o 0
 newest_is o = grind arith
 
-module _ (all : List PlacedEntry) (newest_list : List (Option Stamp)) (strong : List Bool) (stamps : AreNewest all newest_list) (marks : AreStrong all strong) where
+module _ (all : List PlacedEntry) (newest_list : List (Option Stamp)) (strong : List Bool) (stamps : AreNewest all all newest_list) (marks : AreStrong all strong) where
   -- a row ranks as its entry
   one_ranked : (before rest : List PlacedEntry) (x : PlacedEntry) (r : Row) → before ++ x ∷ rest ≡ all → IsRow all x r → rank_row newest_list strong (length before) r ≡ rank_of all before x
   one_ranked before rest x r parts is =
@@ -46,7 +46,7 @@ module _ (all : List PlacedEntry) (newest_list : List (Option Stamp)) (strong : 
         first = sym is.first i;
         newest = stamp i;
         is_first = here i;
-        is_old = old_row all newest_list r x stamps is i;
+        is_old = old_row all all newest_list r x stamps is i;
         lacks_strong = not (marks x.1.principal r.first is.first i);
       }
 

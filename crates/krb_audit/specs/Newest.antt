@@ -1,5 +1,5 @@
 -- The newest entry of a name, and which entries are old (MIT kt_file.c, more_recent).
-use Rattle.std.specs.Prelude.{ℕ, List, [], ◌∷◌, Bool, false, ◌&&◌, ◌==◌, not, nat_lt, filter, if◌then◌else◌, Option, None, Some}
+use Rattle.std.specs.Prelude.{ℕ, zero, suc, List, [], ◌∷◌, Bool, false, true, ◌&&◌, ◌==◌, not, nat_lt, filter, if◌then◌else◌, Option, None, Some}
 use Rattle.krb_wire.specs.Spelling.{Parts}
 use Rattle.krb_wire.specs.Names.{have_same_name}
 use Rattle.krb_keytab.specs.Entry.{EntryParts}
@@ -38,3 +38,17 @@ has_other_version e (Some newest) = not (e.version == newest.version)
 -- an entry is old among entries: its kvno is not that of the newest entry of its name
 abbrev pub is_old : List PlacedEntry → EntryParts → Bool
 is_old xs e = has_other_version e (newest e.principal xs)
+
+-- the old ones of some entries
+abbrev pub old_of : List PlacedEntry → List PlacedEntry
+old_of xs = filter (λ x. is_old xs x.1) xs
+
+-- what is left of entries without the n newest kvnos of each name: the newest one, then the newest of what is left, and so on
+abbrev pub left_after : ℕ → List PlacedEntry → List PlacedEntry
+left_after zero xs = xs
+left_after (suc n) xs = old_of (left_after n xs)
+
+-- an entry has none of the n newest kvnos of its name: it is old, and old among the old ones, and so on
+abbrev pub is_left : ℕ → List PlacedEntry → EntryParts → Bool
+is_left zero xs e = true
+is_left (suc n) xs e = is_left n xs e && is_old (left_after n xs) e

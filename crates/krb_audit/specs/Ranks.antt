@@ -1,5 +1,5 @@
 -- How the entries of a keytab rank among those of their names.
-use Rattle.std.specs.Prelude.{ℕ, List, [], ◌∷◌, ◌++◌, Bool, not, ◌&&◌, Option, Some}
+use Rattle.std.specs.Prelude.{ℕ, List, [], ◌∷◌, ◌++◌, Bool, not, ◌&&◌, if◌then◌else◌, Option, Some}
 use Rattle.std.specs.List.{list_any}
 use Rattle.std.specs.Option.{option_map_or}
 use Rattle.krb_wire.specs.Names.{have_same_name}
@@ -14,6 +14,11 @@ use Rattle.krb_audit.specs.Rows.{first_number}
 abbrev pub mapped_after : {X : Type 0} → (List PlacedEntry → PlacedEntry → X) → List PlacedEntry → List PlacedEntry → List X
 mapped_after read before [] = []
 mapped_after read before (x ∷ xs) = read before x ∷ mapped_after read (before ++ x ∷ []) xs
+
+-- the entries for which a test holds, of each and of those before it, after the entries `before`
+abbrev pub kept_after : (List PlacedEntry → PlacedEntry → Bool) → List PlacedEntry → List PlacedEntry → List PlacedEntry
+kept_after test before [] = []
+kept_after test before (x ∷ xs) = if test before x then x ∷ kept_after test (before ++ x ∷ []) xs else kept_after test (before ++ x ∷ []) xs
 
 -- an entry is the first of its name, after the entries `before`
 abbrev pub is_first : List PlacedEntry → PlacedEntry → Bool

@@ -1,21 +1,22 @@
 -- How entries rank, and which kvnos are selected, from the rows of entries.
-use Rattle.std.specs.Prelude.{◌≡◌, ℕ, ◌+◌, List, [], ◌∷◌, get_or, Bool, false, true, not, ◌&&◌, ◌==◌, Option, Some, None, option_map}
+use Rattle.std.specs.Prelude.{◌≡◌, ℕ, ◌+◌, ◌-◌, drop, map, List, [], ◌∷◌, get_or, Bool, false, true, not, ◌&&◌, ◌==◌, Option, Some, None, option_map}
 use Rattle.std.specs.List.{list_any}
 use Rattle.std.specs.Option.{option_map_or}
 use Rattle.krb_wire.specs.Spelling.{Parts}
 use Rattle.krb_keytab.specs.Find.{PlacedEntry}
 use Rattle.krb_audit.specs.declared.rows.Row.{Row}
 use Rattle.krb_audit.specs.declared.selection.SelectedKvno.{SelectedKvno}
-use Rattle.krb_audit.specs.declared.selection.SelectedKvno.TheVariants.{Any, Exactly, Newest, Old}
+use Rattle.krb_audit.specs.declared.selection.SelectedKvno.TheVariants.{Any, Exactly, Newest, Beyond}
 use Rattle.krb_audit.specs.declared.newest.Stamp.{Stamp}
-use Rattle.krb_audit.specs.Newest.{has_other_version}
+use Rattle.krb_audit.specs.Newest.{has_other_version, is_left, left_after}
 use Rattle.krb_audit.specs.Ranks.{RankParts, is_strong_of}
-use Rattle.krb_audit.specs.Rows.{first_number, newest_stamp, stamped}
+use Rattle.krb_audit.specs.Rows.{AreRows, first_number, newest_stamp, stamped}
+use Rattle.krb_audit.specs.declared.left.Left.{Left}
 use Rattle.krb_audit.specs.Selection.{has_young, is_young}
 
--- the stamps are those of the newest entries
-abbrev pub AreNewest : List PlacedEntry → List (Option Stamp) → Type 0
-AreNewest xs newest = (p : Parts) (i : ℕ) → first_number p xs ≡ Some i → get_or newest i None ≡ newest_stamp p xs
+-- the stamps are those of the newest entries of `xs`, whose names are numbered among all
+abbrev pub AreNewest : List PlacedEntry → List PlacedEntry → List (Option Stamp) → Type 0
+AreNewest all xs newest = (p : Parts) (i : ℕ) → first_number p all ≡ Some i → get_or newest i None ≡ newest_stamp p xs
 
 -- a row is that of an old entry, by those stamps
 abbrev pub is_old_row : List (Option Stamp) → Row → Bool
@@ -25,17 +26,36 @@ is_old_row newest r = has_other_version (stamped r.stamp) (option_map stamped (g
 abbrev pub is_young_row : ℕ → ℕ → List (Option Stamp) → Row → Bool
 is_young_row now seconds newest r = is_young now seconds (stamped r.stamp) && not (is_old_row newest r)
 
--- if old entries are selected, each mark says whether a name has such an entry
-abbrev pub AreYoung : SelectedKvno → ℕ → List PlacedEntry → List Bool → Type 0
-AreYoung (Old age) now xs young = (p : Parts) (i : ℕ) → first_number p xs ≡ Some i → get_or young i false ≡ has_young now age xs p
-AreYoung kvno now xs young = Unit {0}
+-- each mark says whether a name has such an entry among `xs`, if an age is given
+abbrev pub AreYoungOf : Option ℕ → ℕ → List PlacedEntry → List PlacedEntry → List Bool → Type 0
+AreYoungOf age now all xs young = (p : Parts) (i : ℕ) → first_number p all ≡ Some i → get_or young i false ≡ has_young now age xs p
+
+-- each mark does, if old entries are selected
+abbrev pub AreYoung : SelectedKvno → ℕ → List PlacedEntry → List PlacedEntry → List Bool → Type 0
+AreYoung (Beyond keep age) now all xs young = AreYoungOf age now all xs young
+AreYoung kvno now all xs young = Unit {0}
 
 -- the entry of a row has a selected kvno, by those stamps and marks
 abbrev pub selects_row : SelectedKvno → List (Option Stamp) → List Bool → Row → Bool
 selects_row Any newest young r = true
 selects_row (Exactly version) newest young r = r.stamp.kvno == version
 selects_row Newest newest young r = not (is_old_row newest r)
-selects_row (Old age) newest young r = not (get_or young r.first false) && is_old_row newest r
+selects_row (Beyond keep age) newest young r = not (get_or young r.first false) && is_old_row newest r
+
+-- of marks of rows, those stay whose row passes a test
+abbrev pub still_marked : (Row → Bool) → List Bool → List Row → List Bool
+still_marked test marks [] = []
+still_marked test marks (r ∷ rs) = (get_or marks 0 false && test r) ∷ still_marked test (drop 1 marks) rs
+
+-- how many of the newest kvnos are passed over before the last one that is kept
+abbrev pub more_kept : SelectedKvno → ℕ
+more_kept (Beyond keep age) = keep - 1
+more_kept kvno = 0
+
+-- without the n newest kvnos of each name: which entries are left, and their rows
+pub record AreLeft {A : Type 0} (n : ℕ) (xs : List PlacedEntry) (left : Left A) : Type 0 where
+  pub marks : left.marks.items ≡ map (λ x. is_left n xs x.1) xs
+  pub rows : AreRows xs (left_after n xs) left.rows.items
 
 -- ---- ranks
 

@@ -1,6 +1,6 @@
 //! Lists that have a value for each name of a keytab, at the number of its first entry.
 
-ghost use Rattle.std.specs.Prelude.{◌≡◌, ℕ, IfOk, get_or, length};
+ghost use Rattle.std.specs.Prelude.{◌≡◌, ℕ, IfOk, get_or};
 ghost use Rattle.std.specs.List.{All, fold};
 ghost use Rattle.krb_audit.specs.ByName.{HasPlace, at_number, stepped};
 

@@ -1,15 +1,13 @@
 //! The criteria by which entries and tickets are selected, but for the kvno.
 
-ghost use Rattle.std.specs.Prelude.{◌≡◌, ◌&&◌, not, IfOk, map};
-ghost use Rattle.krb_audit.specs.Selection.{AsksFor, has_selected_enctype, is_named};
-ghost use Rattle.std.specs.Vec.{vec_items};
+ghost use Rattle.std.specs.Prelude.{◌≡◌, ◌&&◌, not, IfOk};
+ghost use Rattle.krb_audit.specs.Selection.{has_selected_enctype, is_named};
 ghost use Rattle.krb_audit.specs.Tickets.{has_ended_by, has_selected_server, is_of_gssproxy, is_service, names_ticket};
 
-use crate::name_filter::NameFilter;
 use crate::selection::Selection;
-use crate::tickets::TicketCriteria;
 use krb_ccache::{CredView, is_config, ticket_server};
 use krb_keytab::EntryView;
+use krb_names::NameFilter;
 use krb_wire::{Name, NoMemory, PrincipalView};
 use std::alloc::Allocator;
 
@@ -19,24 +17,26 @@ fn has_selected_enctype(selected: &[u16], enctype: u16) -> bool
     selected.is_empty() || selected.contains(&enctype)
 }
 
-/// Returns whether an entry has a selected name and a selected enctype. Skips the work, with `false`, if neither the
-/// selection nor a message depends on it: its kvno is not selected, and some entry is known to be named. Asks the filter
-/// of the selected names.
-pub fn is_named_if_it_matters<A: Allocator, B: Allocator>(
+/// Returns whether an entry has a selected name, enctype and, if one is given, kvno. Skips the work, with `false`, if
+/// neither the selection nor a message depends on it: the entry is not selected anyway, and some entry is known to be
+/// named. Asks the filter of the selected names.
+pub fn is_named_if_it_matters<A: Allocator, B: Allocator, C: Allocator>(
     is_any_named: bool,
-    has_kvno: bool,
+    may_be_selected: bool,
     selection: &Selection<B>,
-    names: &mut NameFilter<'_, A>,
+    names: &mut NameFilter<'_, A, C>,
     entry: &EntryView<'_>,
 ) -> Result<bool, NoMemory>
-    ensures named { AsksFor selection.now.names names.old.names
-        → IfOk result (λ b. b ≡ (not (is_any_named && not has_kvno) && is_named selection.now entry.now)) }
-    ensures kept { names.new.names ≡ names.old.names }
+    ensures named { names.old ≡ selection.now.names
+        → IfOk result (λ b. b ≡ (not (is_any_named && not may_be_selected) && is_named selection.now entry.now)) }
+    ensures kept { names.new ≡ names.old }
 {
-    if is_any_named && !has_kvno {
+    if is_any_named && !may_be_selected {
         return Ok(false);
     }
-    if !has_selected_enctype(&selection.enctypes, entry.enctype()) {
+    if !has_selected_enctype(&selection.enctypes, entry.enctype())
+        || !selection.kvno.may_be(entry.kvno())
+    {
         return Ok(false);
     }
     names.passes(entry.principal())
@@ -57,49 +57,46 @@ pub fn is_of_gssproxy(server: &PrincipalView<'_>) -> bool
     server.realm() == b"X-GSSPROXY:".as_slice()
 }
 
-// Returns whether a ticket's server, or the one that it names itself, prints as one of those, or its server is any but
-// gssproxy's if there are none. Asks the filter of their names.
+// Returns whether a ticket's server, or the one that it names itself, is asked for, or its server is any but gssproxy's
+// if none is.
 fn has_selected_server<A: Allocator + Copy, B: Allocator>(
     alloc: A,
-    servers: &[Vec<u8, B>],
+    servers: &mut NameFilter<'_, A, B>,
     ticket: &CredView<'_>,
-    names: &mut NameFilter<'_, A>,
 ) -> Result<bool, NoMemory>
-    ensures selected { AsksFor (map vec_items servers.now) names.old.names
-        → IfOk result (λ b. b ≡ has_selected_server (map vec_items servers.now) ticket.now) }
-    ensures kept { names.new.names ≡ names.old.names }
+    ensures selected { IfOk result (λ b. b ≡ has_selected_server servers.old ticket.now) }
+    ensures kept { servers.new ≡ servers.old }
 {
-    if servers.is_empty() {
-        return Ok(!is_of_gssproxy(ticket.server()));
+    let is_of_gssproxy = is_of_gssproxy(ticket.server());
+    if servers.is_any() {
+        return Ok(!is_of_gssproxy);
     }
-    if names.passes(ticket.server())? {
+    if servers.asks_for(ticket.server(), is_of_gssproxy)? {
         return Ok(true);
     }
     match ticket_server(ticket.ticket()) {
-        Some(server) => names.passes(&server.copy(alloc)?),
+        Some(server) => servers.asks_for(&server.copy(alloc)?, is_of_gssproxy),
         None => Ok(false),
     }
 }
 
-/// Returns whether a credential is a ticket that meets the criteria, whatever its end time. Asks the filter of their
-/// servers if that matters.
+/// Returns whether a credential is a ticket of a server that is asked for, and with `all_services` one of a service.
 pub fn names_ticket<A: Allocator + Copy, B: Allocator>(
     alloc: A,
-    criteria: &TicketCriteria<'_, B>,
+    servers: &mut NameFilter<'_, A, B>,
+    all_services: bool,
     credential: &CredView<'_>,
-    servers: &mut NameFilter<'_, A>,
 ) -> Result<bool, NoMemory>
-    ensures named { AsksFor (map vec_items criteria.now.servers.now) servers.old.names
-        → IfOk result (λ b. b ≡ names_ticket (map vec_items criteria.now.servers.now) criteria.now.all_services credential.now) }
-    ensures kept { servers.new.names ≡ servers.old.names }
+    ensures named { IfOk result (λ b. b ≡ names_ticket servers.old all_services credential.now) }
+    ensures kept { servers.new ≡ servers.old }
 {
     if is_config(credential) {
         return Ok(false);
     }
-    if criteria.all_services && !is_service(credential.server()) {
+    if all_services && !is_service(credential.server()) {
         return Ok(false);
     }
-    has_selected_server(alloc, criteria.servers, credential, servers)
+    has_selected_server(alloc, servers, credential)
 }
 
 /// Returns whether a credential has ended at or before the given second, as one without an end never does. True if no

@@ -5,10 +5,11 @@ ghost use Rattle.krb_keytab.specs.Find.{PlacedEntry, placed_entries};
 ghost use Rattle.krb_keytab.specs.Store.{KeytabState};
 ghost use Rattle.krb_audit.specs.Before.{IsBefore, IsMissing};
 ghost use Rattle.krb_audit.specs.CheckUp.{missing_among};
-ghost use Rattle.krb_audit.specs.Findings.{clashes, has_odd_size, is_aged, marks_of, repeats, reported, weak_among};
+ghost use Rattle.krb_audit.specs.Findings.{clashes, has_odd_size, is_aged, marks_of, reported, weak_among};
 ghost use Rattle.krb_audit.specs.Ranks.{mapped_after, rank_of};
 
 use crate::check::CheckCriteria;
+use crate::doubles::repeats;
 use crate::firsts::{Alike, Firsts};
 use crate::marks::Marks;
 use crate::missing::Missing;
@@ -20,7 +21,6 @@ use krb_keytab::{EntryView, Keytab};
 use krb_text::{is_weak, key_size};
 use krb_wire::NoMemory;
 use std::alloc::Allocator;
-use std::cmp::Reverse;
 
 /// What is known before an entry is checked.
 #[derive(Drop)]
@@ -54,14 +54,7 @@ fn is_aged(by: Option<u32>, old: bool, entry: &EntryView<'_>) -> bool
     }
 }
 
-// Returns whether an entry that is alike comes before, with the same key.
-fn repeats(alike: Option<Alike>) -> bool
-    ensures { result ≡ repeats alike }
-{
-    alike.is_some_and(|alike| alike.has_same_key)
-}
-
-// Returns whether one does with another key.
+// Returns whether an entry that is alike comes before, with another key.
 fn clashes(alike: Option<Alike>) -> bool
     ensures { result ≡ clashes alike }
 {
@@ -102,14 +95,12 @@ impl<'a, A: Allocator + Copy> Before<'a, A> {
             → IfOk result (λ marks. (marks ≡ marks_of asked.now k before (place, entry.now))
             × IsBefore k asked.now.wanted (before ++ (place, entry.now) ∷ []) rest self.new) }
     {
-        let kvno = entry.kvno();
         let etype = entry.enctype();
         let ends = ends_mit(entry);
         let hidden = ends & !self.has_ended;
         let rank = self.ranks.take();
         let is_wanted = self.missing.mark_next(entry)?;
-        let key = (Reverse(rank.first), kvno, etype);
-        let alike = self.firsts.consider(key, place, entry.key())?;
+        let alike = self.firsts.next(rank.first, place, entry)?;
         self.has_ended |= ends;
         add_weak(&mut self.weak_etypes, etype);
         Ok(Marks {

@@ -1,10 +1,14 @@
 //! The first entry of each name, kvno and enctype.
 
-ghost use Rattle.std.specs.Prelude.{◌≡◌, None, Some, OnOk, IfOk, option_map, if◌then◌else◌};
+ghost use Rattle.std.specs.Prelude.{◌≡◌, ◌++◌, ◌∷◌, [], List, None, Some, OnOk, IfOk, option_map, if◌then◌else◌};
 ghost use Rattle.std.specs.Option.{unwrap_or};
 ghost use Rattle.std.specs.Str.{bytes_eq};
-ghost use Rattle.krb_audit.specs.Before.{Key, looked, same_key};
+ghost use Rattle.krb_keytab.specs.Find.{PlacedEntry};
+ghost use Rattle.krb_audit.specs.Before.{AreFirsts, Key, looked, same_key};
+ghost use Rattle.krb_audit.specs.Findings.{first_alike};
+ghost use Rattle.krb_audit.specs.Rows.{first_number};
 
+use krb_keytab::EntryView;
 use krb_wire::NoMemory;
 use std::alloc::Allocator;
 use std::cmp::Reverse;
@@ -37,8 +41,8 @@ impl<'a, A: Allocator + Copy> Firsts<'a, A> {
         }
     }
 
-    /// Adds the next entry of `key`. Returns how the first one compares to it, or `None` if it is the first.
-    pub fn consider(
+    // Adds the next entry of `key`. Returns how the first one compares to it, or `None` if it is the first.
+    fn consider(
         &mut self,
         key: Key,
         place: u32,
@@ -58,5 +62,22 @@ impl<'a, A: Allocator + Copy> Firsts<'a, A> {
             place: first.0,
             has_same_key: first.1 == secret,
         }))
+    }
+
+    /// Adds the next entry, whose name's first entry has that number. Returns how the first one that is alike compares to
+    /// it, or `None` if it is the first.
+    pub fn next(
+        &mut self,
+        first: u32,
+        place: u32,
+        entry: &EntryView<'a>,
+    ) -> Result<Option<Alike>, NoMemory>
+        ensures { (all before : List PlacedEntry) → AreFirsts all before (looked self.old)
+            → first_number entry.now.principal all ≡ Some first
+            → IfOk result (λ alike. (alike ≡ first_alike before (place, entry.now))
+            × AreFirsts all (before ++ (place, entry.now) ∷ []) (looked self.new)) }
+    {
+        let key = (Reverse(first), entry.kvno(), entry.enctype());
+        Ok(self.consider(key, place, entry.key())?)
     }
 }

@@ -6,15 +6,16 @@ mod by_name;
 mod check;
 mod counts;
 mod criteria;
+mod doubles;
 mod findings;
 mod firsts;
 mod going_on;
 mod laws;
+mod left;
 mod marks;
 mod missing;
 mod mit;
 mod mode;
-mod name_filter;
 mod newest;
 mod ranks;
 mod report;
@@ -32,11 +33,13 @@ pub use counts::Counts;
 pub use criteria::{is_of_gssproxy, is_service};
 pub use findings::Marked;
 pub use going_on::is_tgs;
-pub use laws::{counts_are_of_findings, each_name_keeps_an_entry, hints_name_each_weak_etype};
+pub use laws::{
+    counts_are_of_findings, each_name_keeps_an_entry, hints_name_each_weak_etype,
+    keeping_more_removes_less, selected_doubles_are_same,
+};
 pub use marks::Marks;
 pub use mit::hides_added;
 pub use mode::{append_mode_digits, is_open_file, is_open_to_all};
-pub use name_filter::NameFilter;
 pub use newest::Stamp;
 pub use ranks::{Rank, Ranks};
 pub use report::append_report;

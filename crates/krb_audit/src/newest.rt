@@ -77,13 +77,13 @@ impl Kept for NewestStamp {
     }
 }
 
-/// Returns a list that has, at the number of the first entry of each name, the stamp of its newest entry.
+/// Returns a list that has, at the number of each name, the stamp of its newest entry among those of these rows.
 #[tactic(auto, using(crate::proofs::NewestStamps::are_newest))]
 pub fn newest_stamps<A: Allocator + Copy>(
     alloc: A,
     rows: &[Row],
 ) -> Result<Vec<Option<Stamp>, A>, NoMemory>
-    ensures { (xs : List PlacedEntry) → AreRows xs xs rows.now → IfOk result (λ newest. AreNewest xs newest.items) }
+    ensures { (all xs : List PlacedEntry) → AreRows all xs rows.now → IfOk result (λ newest. AreNewest all xs newest.items) }
 {
     by_name(alloc, rows, None, &NewestStamp)
 }

@@ -3,13 +3,14 @@
 ghost use Rattle.std.specs.Prelude.{◌≡◌, ◌++◌, ◌∷◌, [], if◌then◌else◌, ℕ, List, IfOk, OnOk};
 ghost use Rattle.std.specs.List.{list_any};
 ghost use Rattle.krb_keytab.specs.Find.{PlacedEntry, placed_entries};
-ghost use Rattle.krb_audit.specs.Selection.{Selects, is_named, needs_clock, selected_in};
+ghost use Rattle.krb_audit.specs.Selection.{Selects, has_given_kvno, is_named, needs_clock, selected_in};
 
 use crate::criteria::is_named_if_it_matters;
-use crate::name_filter::NameFilter;
+use crate::doubles::Doubles;
 use crate::versions::SelectedVersions;
 use krb_keytab::{EntryView, Keytab};
 use krb_keytab_text::append_placed;
+use krb_names::{AskedNames, NameFilter};
 use krb_text::append;
 use krb_wire::NoMemory;
 use std::alloc::Allocator;
@@ -22,9 +23,9 @@ pub enum SelectedKvno {
     Exactly(u32),
     /// That of the newest entry of the name.
     Newest,
-    /// Any kvno other than that of the newest entry of the name. With an age, in seconds, only those of names whose
-    /// entries of the newest kvno are all at least so old.
-    Old(Option<u32>),
+    /// Any kvno other than the given number of newest ones of the name, at least one. With an age, in seconds, only those
+    /// of names whose entries of the last of these are all at least that old.
+    Beyond(u8, Option<u32>),
 }
 
 impl SelectedKvno {
@@ -32,7 +33,17 @@ impl SelectedKvno {
     pub fn needs_clock(self) -> bool
         ensures { result ≡ needs_clock self }
     {
-        matches!(self, SelectedKvno::Old(Some(_)))
+        matches!(self, SelectedKvno::Beyond(_, Some(_)))
+    }
+
+    /// Returns whether a kvno is the one given, if one is given.
+    pub fn may_be(self, kvno: u32) -> bool
+        ensures { result ≡ has_given_kvno self kvno }
+    {
+        match self {
+            SelectedKvno::Exactly(given) => kvno == given,
+            _ => true,
+        }
     }
 }
 
@@ -40,24 +51,24 @@ impl SelectedKvno {
 /// stored.
 #[derive(Drop)]
 pub struct Selection<A: Allocator> {
-    /// The names as they are printed; an empty list selects any.
-    pub names: Vec<Vec<u8, A>, A>,
+    pub names: AskedNames<A>,
     pub kvno: SelectedKvno,
     /// The enctypes; an empty list selects any.
     pub enctypes: Vec<u16, A>,
+    /// Only entries that repeat an earlier one.
+    pub only_same: bool,
 }
 
 impl<A: Allocator> Model for Selection<A> {
-    ghost use Rattle.std.specs.Prelude.{map};
-    ghost use Rattle.std.specs.Vec.{vec_items};
     ghost use Rattle.krb_audit.specs.Selection.{SelectionParts};
 
     ghost Value = { SelectionParts };
 
     ghost view = { λ s. record {
-      names = map vec_items s.names.items;
+      names = s.names;
       kvno = s.kvno;
       enctypes = s.enctypes.items;
+      only_same = s.only_same;
     } };
 }
 
@@ -68,7 +79,7 @@ pub struct Selected<A: Allocator> {
     pub places: Vec<u32, A>,
     /// A line for each that reports its removal, after the label.
     pub text: Vec<u8, A>,
-    /// True if some entry has the selected name and enctype, whatever its kvno.
+    /// True if some entry has a selected name, enctype and, if one is given, kvno.
     pub is_named: bool,
 }
 
@@ -125,8 +136,8 @@ fn take_if<'k, T: Taker<'k>>(
     Ok(())
 }
 
-// Hands on the entries of a keytab that are selected. Returns whether some entry has the selected name and enctype,
-// whatever its kvno. Takes time n log n in the bytes of the keytab and the names.
+// Hands on the entries of a keytab that are selected. Returns whether some entry has a selected name, enctype and, if one
+// is given, kvno. Takes time n log n in the bytes of the keytab and the names, and for each pattern the bytes of the keytab.
 fn take_selected<'k, A: Allocator + Copy, B: Allocator, T: Taker<'k>>(
     alloc: A,
     label: &[u8],
@@ -141,18 +152,15 @@ fn take_selected<'k, A: Allocator + Copy, B: Allocator, T: Taker<'k>>(
 {
     let mut names = NameFilter::of(alloc, &selection.names)?;
     let mut versions = SelectedVersions::of(alloc, keytab, selection.kvno, now)?;
+    let mut doubles = Doubles::of(alloc, keytab, selection.only_same)?;
     let mut is_any_named = false;
     'entries: for (place, entry) in keytab.entries() {
         let has_kvno = versions.next(entry.kvno());
-        let is_named = is_named_if_it_matters(
-            is_any_named,
-            has_kvno,
-            selection,
-            &mut names,
-            &entry,
-        )?;
+        let is_same = doubles.next(place, &entry)?;
+        let may_be = has_kvno & is_same;
+        let is_named = is_named_if_it_matters(is_any_named, may_be, selection, &mut names, &entry)?;
         is_any_named |= is_named;
-        take_if(is_named & has_kvno, label, place, entry, taker)?;
+        take_if(is_named & may_be, label, place, entry, taker)?;
     }
     Ok(is_any_named)
 }

@@ -36,7 +36,7 @@ pub fn strong_names<A: Allocator + Copy>(
     rows: &[Row],
     newest: &[Option<Stamp>],
 ) -> Result<Vec<bool, A>, NoMemory>
-    ensures { (xs : List PlacedEntry) → AreRows xs xs rows.now → AreNewest xs newest.now
+    ensures { (xs : List PlacedEntry) → AreRows xs xs rows.now → AreNewest xs xs newest.now
         → IfOk result (λ strong. AreStrong xs strong.items) }
 {
     Ok(by_name(alloc, rows, false, &Strong { newest })?)

@@ -1,14 +1,12 @@
 //! Selects tickets of a cache.
 
-ghost use Rattle.std.specs.Prelude.{◌≡◌, ◌++◌, ◌∷◌, [], List, IfOk, OnOk, map};
-ghost use Rattle.std.specs.Vec.{vec_items};
+ghost use Rattle.std.specs.Prelude.{◌≡◌, ◌++◌, ◌∷◌, [], List, IfOk, OnOk};
 ghost use Rattle.krb_ccache.specs.Store.{PlacedCredential};
-ghost use Rattle.krb_audit.specs.Selection.{AsksFor};
 ghost use Rattle.krb_audit.specs.Tickets.{SelectsSoFar, SelectsTickets, removed_ticket_line};
 
 use crate::criteria::{has_ended_by, names_ticket};
-use crate::name_filter::NameFilter;
 use krb_ccache::{Ccache, CredView};
+use krb_names::{AskedNames, NameFilter};
 use krb_text::{append, append_byte, append_labelled};
 use krb_wire::{NoMemory, write_name};
 use std::alloc::Allocator;
@@ -30,8 +28,8 @@ fn append_removed<A: Allocator>(
 /// Which tickets of a cache are selected: those that meet all criteria given.
 #[derive(Clone, Copy)]
 pub struct TicketCriteria<'s, B: Allocator> {
-    /// The servers as they are printed, also as tickets name them; an empty list selects any but those of gssproxy.
-    pub servers: &'s [Vec<u8, B>],
+    /// The servers, also as tickets name them. If none is asked for, any but those of gssproxy.
+    pub servers: &'s AskedNames<B>,
     /// Only tickets of services: not those of the ticket-granting service.
     pub all_services: bool,
     /// Only tickets that end at or before this second.
@@ -63,20 +61,21 @@ impl<A: Allocator + Copy> SelectedTickets<A> {
     }
 
     // Adds the next credential if it is a selected ticket.
-    fn consider<B: Allocator>(
+    fn consider<B: Allocator, C: Allocator>(
         &mut self,
         alloc: A,
         label: &[u8],
         criteria: &TicketCriteria<'_, B>,
-        servers: &mut NameFilter<'_, A>,
+        servers: &mut NameFilter<'_, A, C>,
         place: u32,
         credential: &CredView<'_>,
     ) -> Result<(), NoMemory>
-        ensures { (rest all : List PlacedCredential) → AsksFor (map vec_items criteria.now.servers.now) servers.old.names
-            → SelectsSoFar label.now (map vec_items criteria.now.servers.now) criteria.now.all_services criteria.now.ended_by ((place, credential.now) ∷ rest) all self.old
-            → OnOk result (SelectsSoFar label.now (map vec_items criteria.now.servers.now) criteria.now.all_services criteria.now.ended_by rest all self.new × AsksFor (map vec_items criteria.now.servers.now) servers.new.names) }
+        ensures added { (rest all : List PlacedCredential)
+            → SelectsSoFar label.now servers.old criteria.now.all_services criteria.now.ended_by ((place, credential.now) ∷ rest) all self.old
+            → OnOk result (SelectsSoFar label.now servers.old criteria.now.all_services criteria.now.ended_by rest all self.new) }
+        ensures kept { servers.new ≡ servers.old }
     {
-        if !names_ticket(alloc, criteria, credential, servers)? {
+        if !names_ticket(alloc, servers, criteria.all_services, credential)? {
             return Ok(());
         }
         self.is_named = true;
@@ -94,7 +93,7 @@ pub fn select_tickets<A: Allocator + Copy, B: Allocator>(
     cache: &Ccache<A>,
     criteria: &TicketCriteria<'_, B>,
 ) -> Result<SelectedTickets<A>, NoMemory>
-    ensures { IfOk result (SelectsTickets label.now (map vec_items criteria.now.servers.now) criteria.now.all_services criteria.now.ended_by cache.now.state) }
+    ensures { IfOk result (SelectsTickets label.now criteria.now.servers.now criteria.now.all_services criteria.now.ended_by cache.now.state) }
 {
     let mut servers = NameFilter::of(alloc, criteria.servers)?;
     let mut selected = SelectedTickets {

@@ -1,12 +1,13 @@
 //! The selected kvnos, for a pass over the entries of a keytab.
 
-ghost use Rattle.std.specs.Prelude.{◌≡◌, ◌∷◌, ℕ, List, IfOk, false, get_or, map};
+ghost use Rattle.std.specs.Prelude.{◌≡◌, ◌∷◌, ℕ, List, IfOk, drop, false, get_or, map};
 ghost use Rattle.krb_keytab.specs.Find.{PlacedEntry, placed_entries};
 ghost use Rattle.krb_audit.specs.Selection.{has_selected_kvno};
-ghost use Rattle.krb_audit.specs.Standings.{selects_row};
+ghost use Rattle.krb_audit.specs.Standings.{more_kept, selects_row, still_marked};
 ghost use Rattle.krb_audit.specs.Versions.{AreVersions};
 ghost use Rattle.krb_audit.specs.declared.selection.SelectedKvno.{SelectedKvno};
 
+use crate::left::left_after;
 use crate::newest::{Stamp, is_old, newest_stamps};
 use crate::rows::{Row, rows_of};
 use crate::selection::SelectedKvno;
@@ -39,25 +40,49 @@ fn selects_row(kvno: SelectedKvno, newest: &[Option<Stamp>], young: &[bool], row
         SelectedKvno::Any => true,
         SelectedKvno::Exactly(selected) => row.stamp.kvno == selected,
         SelectedKvno::Newest => !is_old(newest, row),
-        SelectedKvno::Old(_) => !is_marked(young, row) && is_old(newest, row),
+        SelectedKvno::Beyond(..) => !is_marked(young, row) && is_old(newest, row),
     }
 }
 
-// Returns for each row whether its entry has.
-fn selected_rows<A: Allocator + Copy>(
+// Returns the first mark, or `false` if there is none, and the others.
+fn first_mark(marks: &[bool]) -> (bool, &[bool])
+    ensures { (result.0 ≡ get_or marks.now 0 false) × (result.1.now ≡ drop 1 marks.now) }
+{
+    match marks.split_first() {
+        Some((mark, others)) => (*mark, others),
+        None => (false, marks),
+    }
+}
+
+/// Returns the marks that stay: those whose row's entry has a selected kvno.
+pub fn still_marked<A: Allocator + Copy>(
     alloc: A,
+    marks: &[bool],
     kvno: SelectedKvno,
     newest: &[Option<Stamp>],
     young: &[bool],
     rows: &[Row],
 ) -> Result<Vec<bool, A>, NoMemory>
-    ensures { IfOk result (λ marks. marks.items ≡ map (selects_row kvno newest.now young.now) rows.now) }
+    ensures { IfOk result (λ still. still.items ≡ still_marked (selects_row kvno newest.now young.now) marks.now rows.now) }
 {
-    let mut marks = Vec::with_capacity(alloc, rows.len())?;
+    let mut still = Vec::with_capacity(alloc, rows.len())?;
+    let mut marks_left = marks;
     'rows: for row in rows {
-        marks.push(selects_row(kvno, newest, young, *row))?;
+        let (mark, others) = first_mark(marks_left);
+        still.push(mark & selects_row(kvno, newest, young, *row))?;
+        marks_left = others;
     }
-    Ok(marks)
+    Ok(still)
+}
+
+// Returns how many of the newest kvnos are passed over before the last one that is kept.
+fn more_kept(kvno: SelectedKvno) -> u8
+    ensures { result ≡ more_kept kvno }
+{
+    match kvno {
+        SelectedKvno::Beyond(keep, _) => keep.saturating_sub(1),
+        _ => 0,
+    }
 }
 
 // Returns for each entry of a keytab whether it has a selected kvno at the second `now`, which matters for old entries
@@ -72,9 +97,10 @@ fn marks_of<A: Allocator + Copy>(
         ≡ map (λ x. has_selected_kvno kvno now (placed_entries keytab.now.state) x.1) (placed_entries keytab.now.state)) }
 {
     let rows = rows_of(alloc, keytab)?;
-    let newest = newest_stamps(alloc, &rows)?;
-    let young = young_names(alloc, &rows, &newest, kvno, now)?;
-    Ok(selected_rows(alloc, kvno, &newest, &young, &rows)?)
+    let left = left_after(alloc, &rows, more_kept(kvno))?;
+    let newest = newest_stamps(alloc, &left.rows)?;
+    let young = young_names(alloc, &left.rows, &newest, kvno, now)?;
+    Ok(still_marked(alloc, &left.marks, kvno, &newest, &young, &rows)?)
 }
 
 impl<A: Allocator + Copy> SelectedVersions<A> {

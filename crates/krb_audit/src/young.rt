@@ -1,11 +1,10 @@
 //! The names whose newest kvno has a young entry.
 
-ghost use Rattle.std.specs.Prelude.{◌≡◌, List, IfOk, Some};
+ghost use Rattle.std.specs.Prelude.{◌≡◌, List, IfOk};
 ghost use Rattle.krb_keytab.specs.Find.{PlacedEntry};
-ghost use Rattle.krb_audit.specs.declared.selection.SelectedKvno.TheVariants.{Old};
 ghost use Rattle.krb_audit.specs.Rows.{AreRows, stamped};
 ghost use Rattle.krb_audit.specs.Selection.{is_young};
-ghost use Rattle.krb_audit.specs.Standings.{AreNewest, AreYoung};
+ghost use Rattle.krb_audit.specs.Standings.{AreNewest, AreYoung, AreYoungOf};
 
 use crate::by_name::{Kept, by_name};
 use crate::newest::{Stamp, is_old};
@@ -43,17 +42,21 @@ impl Kept for Young<'_> {
     }
 }
 
-// Returns for each name, at the number of its first entry, whether its newest version may be younger than `seconds`.
+// Returns for each name, at the number of its first entry, whether its newest version may be younger than the age, if one
+// is given.
 fn young_for<A: Allocator + Copy>(
     alloc: A,
     rows: &[Row],
     newest: &[Option<Stamp>],
     now: u32,
-    seconds: u32,
+    age: Option<u32>,
 ) -> Result<Vec<bool, A>, NoMemory>
-    ensures { (xs : List PlacedEntry) → AreRows xs xs rows.now → AreNewest xs newest.now
-        → IfOk result (λ young. AreYoung (Old (Some seconds)) now xs young.items) }
+    ensures { (all xs : List PlacedEntry) → AreRows all xs rows.now → AreNewest all xs newest.now
+        → IfOk result (λ young. AreYoungOf age now all xs young.items) }
 {
+    let Some(seconds) = age else {
+        return Ok(Vec::new(alloc));
+    };
     let young = Young {
         newest,
         now,
@@ -70,11 +73,11 @@ pub fn young_names<A: Allocator + Copy>(
     kvno: SelectedKvno,
     now: u32,
 ) -> Result<Vec<bool, A>, NoMemory>
-    ensures { (xs : List PlacedEntry) → AreRows xs xs rows.now → AreNewest xs newest.now
-        → IfOk result (λ young. AreYoung kvno now xs young.items) }
+    ensures { (all xs : List PlacedEntry) → AreRows all xs rows.now → AreNewest all xs newest.now
+        → IfOk result (λ young. AreYoung kvno now all xs young.items) }
 {
     match kvno {
-        SelectedKvno::Old(Some(seconds)) => young_for(alloc, rows, newest, now, seconds),
+        SelectedKvno::Beyond(_, age) => young_for(alloc, rows, newest, now, age),
         _ => Ok(Vec::new(alloc)),
     }
 }

@@ -1,9 +1,7 @@
-use Rattle.krb_audit.proofs.ForAnswers.{◌≡◌, List, ℕ, cond, Option, Some, ap, sym, ◌∙◌, ◌∷◌, [], append_assoc, ◌&&◌, ◌||◌, not, list_any, option_map, PlacedEntry, placed_entries, ◌++◌, ends_mit, first_number, mapped_after, rank_of, RankParts, ap₂, Key, looked, same_key, clashes, first_alike, is_aged, repeats, with_if, Alike, ended_here}
+use Rattle.krb_audit.proofs.ForAnswers.{◌≡◌, Some, ap, sym, ◌∙◌, ◌∷◌, [], append_assoc, ◌&&◌, ◌||◌, not, list_any, option_map, PlacedEntry, placed_entries, ◌++◌, ends_mit, first_number, mapped_after, rank_of, RankParts, ap₂, clashes, first_alike, is_aged, repeats, with_if, Alike, ended_here}
 use Rattle.std.specs.Prelude.{Bool}
-use Rattle.std.specs.Option.{unwrap_or}
 use Rattle.krb_text.specs.Etype.{is_weak}
 use Rattle.krb_findings.specs.declared.finding.Finding.TheVariants.{Weak, Size, Hidden, Same, Clash, Old, Aged, Nostrong, Unwanted}
-use Rattle.krb_audit.proofs.FirstsLemmas.{alike_here, alike_to, firsts_next, key_in}
 use Rattle.krb_audit.proofs.findings.Before.marks.Goals as goal
 
 pub returns : goal.returns
@@ -18,13 +16,10 @@ returns g c = λ k before rest known.
     let number : first_number x.1.principal all ≡ Some first = sym (ap (λ (r : RankParts). r.first) next.0) in
     let marked = ap (λ (r : RankParts). r.is_old) next.0 in
     let wants = c.in_ok-is_wanted.ensures asked.wanted before x.0 known.missing in
-    let look : Key → Option (ℕ × List ℕ) = looked old.firsts in
-    let key : Key = (record { 0 = first }, c.kvno-kvno.result, c.enctype-etype.result) in
-    let is : key ≡ key_in first x = λ i. (record { 0 = first }, c.kvno-kvno.ensures i, c.enctype-etype.ensures i) in
     let hidden : (c.ends_mit-ends.result && not old.has_ended) ≡ (ends_mit x.1 && not (list_any (λ y. ends_mit y.1) before)) =
     ap (λ (b : Bool). b && not old.has_ended) c.ends_mit-ends.ensures ∙ ap (λ (b : Bool). ends_mit x.1 && not b) known.has_ended in
-    let alike : c.in_ok-alike.alike ≡ first_alike before x =
-    c.in_ok-alike.ensures.alike ∙ ap (λ (s : List ℕ). option_map (alike_to s) (look key)) c.key.ensures ∙ ap (λ (l : Key). option_map (alike_to x.1.key) (look l)) is ∙ alike_here all before x first look known.firsts number in
+    let next_first = c.in_ok-alike.ensures all before known.firsts number in
+    let alike : c.in_ok-alike.alike ≡ first_alike before x = next_first.0 in
     let with_weak = c.with_if.ensures ∙ ap₂ (λ b s. with_if b Weak s) (c.is_weak.ensures ∙ ap is_weak c.enctype-etype.ensures) c.none.ensures in
     let with_size = c.with_if-2.ensures ∙ ap₂ (λ b s. with_if b Size s) c.has_odd_size.ensures with_weak in
     let with_hidden = c.with_if-3.ensures ∙ ap₂ (λ b s. with_if b Hidden s) hidden with_size in
@@ -33,16 +28,13 @@ returns g c = λ k before rest known.
     let with_old = c.with_if-6.ensures ∙ ap₂ (λ b s. with_if b Old s) marked with_clash in
     let with_aged = c.with_if-7.ensures ∙ ap₂ (λ b s. with_if b Aged s) (c.is_aged.ensures ∙ (λ i. not (marked i) && is_aged (c.asked.view_is i).aged_by x.1)) with_old in
     let with_nostrong = c.with_if-8.ensures ∙ ap₂ (λ b s. with_if b Nostrong s) (ap (λ (r : RankParts). r.is_first && r.lacks_strong) next.0) with_aged in
-    let with_unwanted = c.with_if-9.ensures ∙ ap₂ (λ b s. with_if b Unwanted s) (λ i. (c.asked.view_is i).only && ((next.0 i).is_first && not (wants.0 i))) with_nostrong in
-    let puts : (l : Key) → looked c.consider.new.self l ≡ cond (same_key (key_in first x) l) (Some (unwrap_or (look (key_in first x)) (x.0, x.1.key))) (look l) = λ l.
-    c.in_ok-alike.ensures.kept l ∙ ap (λ (m : Key). cond (same_key m l) (Some (unwrap_or (look m) (x.0, c.key.result.now))) (look l)) is
-    ∙ ap (λ (s : List ℕ). cond (same_key (key_in first x) l) (Some (unwrap_or (look (key_in first x)) (x.0, s))) (look l)) c.key.ensures in (
+    let with_unwanted = c.with_if-9.ensures ∙ ap₂ (λ b s. with_if b Unwanted s) (λ i. (c.asked.view_is i).only && ((next.0 i).is_first && not (wants.0 i))) with_nostrong in (
       λ i. record { findings = with_unwanted i; first = (c.place_of.ensures ∙ ap (option_map (λ (first : Alike). first.place)) alike) i; newest = (next.0 i).newest },
       record {
         all = known.all ∙ sym (append_assoc before (x ∷ []) rest);
         ranks = next.1;
         missing = wants.1;
-        firsts = firsts_next all before x first look (looked c.consider.new.self) known.firsts number puts;
+        firsts = next_first.1;
         has_ended = ap (λ (b : Bool). old.has_ended || b) c.ends_mit-ends.ensures ∙ ended_here before x old.has_ended known.has_ended;
         weak_etypes = c.add_weak.ensures before x known.weak_etypes c.enctype-etype.ensures;
       },
