@@ -8,9 +8,9 @@ pub use Rattle.std.specs.List.{list_any, AllByRecursion, flat_map, find, cons_op
 pub use Rattle.std.specs.Prelude.{map, ◌||◌, filter, ◌==◌, ◌&&◌, not, ⊤, unwrap_or, option_map, is_some, codes, fold, replicate, set}
 pub use Rattle.std.specs.Str.{bytes_eq}
 pub use Rattle.krb_copy.specs.Classes.{ClassKey, AreClasses, IsClassKey, kind_of, has_among, emptiness, step_at, HaveClass, places_of, stays, has_key, IsClass}
-pub use Rattle.krb_copy.specs.Copying.{run_over, as_found, asked_as, renamed, step_of, Copy, Held, run_start, Clash, Run, There, with_copy, run_after, go_on, has_lines, run_added, as_copied, Step, twins, step_among, is_kept, copied_lines, clash_line}
+pub use Rattle.krb_copy.specs.Copying.{run_over, as_found, asked_as, NewParts, renamed, versioned, step_of, Copy, Held, run_start, Clash, Run, There, with_copy, run_after, go_on, has_lines, run_added, as_copied, Step, twins, step_among, is_kept, copied_lines, clash_line}
 pub use Rattle.krb_copy.specs.Laws.{IsInPlace, AllStay, OthersStay, changes_of, Has, NothingElse, GoesByItsEntries, AreEntries, ChangesAreReported, SecondDoesNothing, changes_over, AreHistories, HasEachAsked}
-pub use Rattle.krb_copy.specs.Made.{IsRun, IsMade, name_in, IsRefusal, IsRefusedBy, Meets, Ends, end_at}
+pub use Rattle.krb_copy.specs.Made.{IsRun, IsMade, name_in, new_in, IsRefusal, IsRefusedBy, Meets, Ends, end_at}
 pub use Rattle.krb_copy.specs.Texts.{name_texts, AreNames, AreTexts, asked_texts, entry_texts}
 pub use Rattle.krb_names.specs.Twins.{are_twins, are_same}
 pub use Rattle.krb_keytab.proofs.AfterChanges.{put_gives, cut_gives, added_reads, removed_none}

@@ -1,5 +1,5 @@
 -- A run and its definition, entry by entry.
-use Rattle.krb_copy.proofs.Cited.{◌≡◌, ℕ, ◌+◌, ◌<◌, Bool, true, false, cond, List, [], ◌∷◌, ◌++◌, length, drop, Option, Result, Ok, Err, refl, sym, ap, subst, ◌∙◌, Code, PlacedEntry, KeytabState, put_result, without, Run, Copy, asked_as, step_of, with_copy, run_after, run_added, has_lines, run_over, go_on, AreClasses, AreNames, get_or, drop_more, copied_lines, IsRefusal, IsRun, Meets, Ends, end_at, Parts, PutGives, Copying}
+use Rattle.krb_copy.proofs.Cited.{◌≡◌, ℕ, ◌+◌, ◌<◌, Bool, true, false, cond, List, [], ◌∷◌, ◌++◌, length, drop, Result, Ok, Err, refl, sym, ap, subst, ◌∙◌, Code, PlacedEntry, KeytabState, put_result, without, Run, Copy, NewParts, asked_as, step_of, with_copy, run_after, run_added, has_lines, run_over, go_on, AreClasses, AreNames, get_or, drop_more, copied_lines, IsRefusal, IsRun, Meets, Ends, end_at, PutGives, Copying}
 use Rattle.krb_walk.specs.declared.refusal.Refusal.{Refusal}
 use Rattle.krb_walk.specs.declared.refusal.Refusal.TheVariants.{Code as ByCode, NoMemory}
 
@@ -76,6 +76,6 @@ ended due replace x rest old new (ByCode code) w meets =
 ended due replace x rest old new NoMemory w meets = tt
 
 -- the entry that is met is the first of those that are left
-pub first_left : {A : Type 0} (due : Result Run Code) (replace : Bool) (name : Option Parts) (asked : List PlacedEntry) (i : ℕ) (x : PlacedEntry) (copying : Copying A) → i < length asked → x ≡ get_or asked i x
-    → IsOnTheWay due replace (asked_as name (drop i asked)) copying → IsOnTheWay due replace (asked_as name (x ∷ drop (i + 1) asked)) copying
-first_left due replace name asked i x copying lt here w = subst (λ (ys : List PlacedEntry). IsOnTheWay due replace (asked_as name ys) copying) (drop_more asked i x lt ∙ ap (λ (y : PlacedEntry). y ∷ drop (i + 1) asked) (sym here)) w
+pub first_left : {A : Type 0} (due : Result Run Code) (replace : Bool) (new : NewParts) (asked : List PlacedEntry) (i : ℕ) (x : PlacedEntry) (copying : Copying A) → i < length asked → x ≡ get_or asked i x
+    → IsOnTheWay due replace (asked_as new (drop i asked)) copying → IsOnTheWay due replace (asked_as new (x ∷ drop (i + 1) asked)) copying
+first_left due replace new asked i x copying lt here w = subst (λ (ys : List PlacedEntry). IsOnTheWay due replace (asked_as new ys) copying) (drop_more asked i x lt ∙ ap (λ (y : PlacedEntry). y ∷ drop (i + 1) asked) (sym here)) w

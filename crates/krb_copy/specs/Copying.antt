@@ -13,14 +13,28 @@ use Rattle.krb_names.specs.Twins.{are_twins, are_same}
 
 -- ---- what is asked for
 
+-- what copies get in place of their own, where it is given: a name, and a version
+pub record NewParts : Type 0 where
+  pub name : Option Parts
+  pub kvno : Option ℕ
+
 -- an entry under a new name, if one is given; its name type stays
 abbrev pub renamed : Option Parts → EntryParts → EntryParts
 renamed None x = x
 renamed (Some name) x = record x { principal = record name { name_type = x.principal.name_type } }
 
--- entries with their places, each under the new name, if one is given
-abbrev pub asked_as : Option Parts → List PlacedEntry → List PlacedEntry
-asked_as name xs = map (λ x. (x.0, renamed name x.1)) xs
+-- an entry of a new version, if one is given
+abbrev pub versioned : Option ℕ → EntryParts → EntryParts
+versioned None x = x
+versioned (Some kvno) x = record x { version = kvno }
+
+-- an entry as it is copied
+abbrev pub renewed : NewParts → EntryParts → EntryParts
+renewed new x = versioned new.kvno (renamed new.name x)
+
+-- entries with their places, each as it is copied
+abbrev pub asked_as : NewParts → List PlacedEntry → List PlacedEntry
+asked_as new xs = map (λ x. (x.0, renewed new x.1)) xs
 
 -- ---- what becomes of an entry
 

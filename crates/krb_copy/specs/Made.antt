@@ -9,14 +9,19 @@ use Rattle.krb_wire.specs.Reading.{principal_parts}
 use Rattle.krb_wire.specs.declared.principal.Principal.{Principal}
 use Rattle.krb_keytab.specs.Find.{PlacedEntry}
 use Rattle.krb_keytab.specs.Store.{KeytabState}
-use Rattle.krb_copy.specs.Copying.{Run, has_lines}
+use Rattle.krb_copy.specs.Copying.{NewParts, Run, has_lines}
 use Rattle.krb_copy.specs.Classes.{AreClasses}
 use Rattle.krb_copy.specs.Texts.{AreNames}
+use Rattle.krb_copy.specs.declared.copy.CopyAs.{CopyAs}
 use Rattle.krb_copy.specs.declared.copy.Copying.{Copying}
 
 -- a new name, if there is one, without where it is in memory
 abbrev pub name_in : {A : Type 0} → Option (Bor (Principal A)) → Option Parts
 name_in name = option_map (λ n. principal_parts n.now) name
+
+-- what copies get, without where it is in memory
+abbrev pub new_in : {A : Type 0} → CopyAs A → NewParts
+new_in new = record { name = name_in new.name; kvno = new.kvno }
 
 -- the lines, those of the clashes, and, if there are none of these, the places of the copies and the keytab are those of the run
 pub record IsMade (due : Result Run Code) (text clashes places : List ℕ) (keytab : KeytabState) : Type 0 where

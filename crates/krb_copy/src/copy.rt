@@ -3,8 +3,8 @@
 ghost use Rattle.std.specs.Prelude.{◌≡◌, ◌∷◌, List, Some, IfOk, IfErr};
 ghost use Rattle.krb_wire.specs.Reading.{principal_parts};
 ghost use Rattle.krb_keytab.specs.Find.{PlacedEntry};
-ghost use Rattle.krb_copy.specs.Copying.{Run, asked_as, copy_run, has_lines, renamed, run_after, run_over, step_of};
-ghost use Rattle.krb_copy.specs.Made.{Ends, IsMade, IsRefusedBy, IsRun, Meets, end_at, name_in};
+ghost use Rattle.krb_copy.specs.Copying.{Run, asked_as, copy_run, has_lines, renamed, renewed, run_after, run_over, step_of, versioned};
+ghost use Rattle.krb_copy.specs.Made.{Ends, IsMade, IsRefusedBy, IsRun, Meets, end_at, new_in};
 
 use crate::class::{Class, Step};
 use crate::classes::{Classes, class_key, classes_of};
@@ -17,6 +17,15 @@ use std::alloc::Allocator;
 
 // How many bytes a line seldom exceeds.
 const USUAL_LINE: usize = 80;
+
+/// What copies get in place of their own, where it is given.
+#[derive(Clone, Copy)]
+pub struct CopyAs<'n, B: Allocator> {
+    /// A name. Its type stays that of the entry's own.
+    pub name: Option<&'n Principal<B>>,
+    /// A version, whichever there is.
+    pub kvno: Option<u32>,
+}
 
 /// What copying came to.
 #[derive(Drop)]
@@ -53,6 +62,16 @@ fn renamed<A: Allocator + Copy, B: Allocator>(
     Ok(new)
 }
 
+// Returns the fields of an entry with a new version, if one is given.
+fn versioned<'e, N: Name>(fields: Fields<'e, N>, kvno: Option<u32>) -> Fields<'e, N>
+    ensures { result ≡ versioned kvno fields.entry }
+{
+    match kvno {
+        None => fields,
+        Some(kvno) => Fields { kvno, ..fields },
+    }
+}
+
 impl<'t, A: Allocator + Copy> Copying<'t, A> {
     // Copies the next entry, with its key, after its twins are removed, adds the line of its clash, or does nothing.
     fn meet<N: Name>(
@@ -81,25 +100,29 @@ impl<'t, A: Allocator + Copy> Copying<'t, A> {
         Ok(())
     }
 
-    // Meets the next entry under its own name, or under the new one.
+    // Meets the next entry as it is copied.
     fn meet_as<B: Allocator>(
         &mut self,
         alloc: A,
         place: u32,
         entry: &EntryView<'t>,
-        new_name: Option<&Principal<B>>,
+        new: &CopyAs<'_, B>,
     ) -> Result<(), Refusal>
         ensures meets { (run : Run) (asked : List PlacedEntry)
-            → IsRun run ((place, renamed (name_in new_name.entry) entry.now) ∷ asked) self.old
-            → Meets run asked (run_after run (place, renamed (name_in new_name.entry) entry.now)
-            (step_of self.old.replace run.before run.held (renamed (name_in new_name.entry) entry.now))) result self.new }
+            → IsRun run ((place, renewed (new_in new.now) entry.now) ∷ asked) self.old
+            → Meets run asked (run_after run (place, renewed (new_in new.now) entry.now)
+            (step_of self.old.replace run.before run.held (renewed (new_in new.now) entry.now))) result self.new }
         ensures replace { self.new.replace ≡ self.old.replace }
     {
-        match new_name {
-            None => self.meet(alloc, place, &entry.fields(), entry.key()),
+        match new.name {
+            None => {
+                let fields = versioned(entry.fields(), new.kvno);
+                self.meet(alloc, place, &fields, entry.key())
+            }
             Some(name) => {
-                let new = renamed(alloc, entry, name)?;
-                self.meet(alloc, place, &new.fields(), entry.key())
+                let named = renamed(alloc, entry, name)?;
+                let fields = versioned(named.fields(), new.kvno);
+                self.meet(alloc, place, &fields, entry.key())
             }
         }
     }
@@ -114,18 +137,18 @@ impl<'t, A: Allocator + Copy> Copying<'t, A> {
         }
     }
 
-    // Goes over the entries asked for, under their own names or the new one.
+    // Goes over the entries asked for, each as it is copied.
     fn go_over<B: Allocator>(
         &mut self,
         alloc: A,
         asked: &'t [(u32, EntryView<'t>)],
-        new_name: Option<&Principal<B>>,
+        new: &CopyAs<'_, B>,
     ) -> Result<(), Refusal>
-        ensures { (run : Run) → IsRun run (asked_as (name_in new_name.entry) asked.now) self.old
-            → Ends (run_over self.old.replace (asked_as (name_in new_name.entry) asked.now) run) result self.new }
+        ensures { (run : Run) → IsRun run (asked_as (new_in new.now) asked.now) self.old
+            → Ends (run_over self.old.replace (asked_as (new_in new.now) asked.now) run) result self.new }
     {
         'asked: for (place, entry) in asked {
-            if let Err(refusal) = self.meet_as(alloc, *place, entry, new_name) {
+            if let Err(refusal) = self.meet_as(alloc, *place, entry, new) {
                 return self.end(refusal);
             }
         }
@@ -133,23 +156,23 @@ impl<'t, A: Allocator + Copy> Copying<'t, A> {
     }
 }
 
-/// Copies the entries asked for, which have their places in another keytab, in order, under their own names or all under
-/// the new one, with the name type of each. One with name, kvno, enctype and key of an entry of the keytab is passed over.
+/// Copies the entries asked for, which have their places in another keytab, in order, with the new name and version, if
+/// these are given, and the name type of each. One with name, kvno, enctype and key of an entry of the keytab is passed over.
 /// One with the name, kvno and enctype of others clashes, or with `replace` takes their place, unless one of these was
 /// copied before or has the key of an entry asked for before. Refused as an addition is; one that is refused after a clash
 /// ends the run. Takes time n log n in the bytes of both.
 pub fn copy_into<A: Allocator + Copy, B: Allocator>(
     alloc: A,
     asked: &[(u32, EntryView<'_>)],
-    new_name: Option<&Principal<B>>,
+    new: &CopyAs<'_, B>,
     to: Keytab<A>,
     replace: bool,
 ) -> Result<Copied<A>, Refusal>
-    ensures made { IfOk result (λ copied. IsMade (copy_run replace (asked_as (name_in new_name.entry) asked.now) to.state)
+    ensures made { IfOk result (λ copied. IsMade (copy_run replace (asked_as (new_in new.now) asked.now) to.state)
         copied.text.items copied.clashes.items copied.places.items copied.keytab.state) }
-    ensures refused { IfErr result (IsRefusedBy (copy_run replace (asked_as (name_in new_name.entry) asked.now) to.state)) }
+    ensures refused { IfErr result (IsRefusedBy (copy_run replace (asked_as (new_in new.now) asked.now) to.state)) }
 {
-    let texts = Texts::of(alloc, &to, asked, new_name)?;
+    let texts = Texts::of(alloc, &to, asked, new.name)?;
     let mut left = texts.left();
     let classes = classes_of(alloc, &to, &mut left)?;
     let Ok(keytab) = Indexed::of(alloc, to) else {
@@ -165,10 +188,10 @@ pub fn copy_into<A: Allocator + Copy, B: Allocator>(
     let mut copying = Copying {
         making,
         classes,
-        names: left.names(new_name),
+        names: left.names(new.name),
         replace,
     };
-    copying.go_over(alloc, &*asked, new_name)?;
+    copying.go_over(alloc, &*asked, new)?;
     Ok(Copied {
         text: copying.making.text,
         clashes: copying.making.clashes,

@@ -10,7 +10,7 @@ mod making;
 mod numbering;
 mod texts;
 
-pub use copy::{Copied, copy_into};
+pub use copy::{Copied, CopyAs, copy_into};
 pub use diff::diff_text;
 pub use laws::{
     differences_are_mirrored, entries_asked_for_are_there, nothing_else_is_there, others_stay,

@@ -1,6 +1,6 @@
 //! The names and keys of entries, in one buffer, so that a keytab that had them can be changed.
 
-ghost use Rattle.std.specs.Prelude.{◌≡◌, ◌∷◌, ◌++◌, [], ℕ, List, OnOk, IfOk};
+ghost use Rattle.std.specs.Prelude.{◌≡◌, ◌∷◌, ◌++◌, [], ℕ, List, Option, OnOk, IfOk};
 ghost use Rattle.krb_wire.specs.Names.{name_text};
 ghost use Rattle.krb_keytab.specs.Find.{PlacedEntry, placed_entries};
 ghost use Rattle.krb_copy.specs.Copying.{asked_as};
@@ -181,9 +181,9 @@ impl<'t> TextsLeft<'t> {
 
     /// Returns the names of the entries asked for, once these texts are left.
     pub fn names<B: Allocator>(mut self, new_name: Option<&Principal<B>>) -> NamesLeft<'t>
-        ensures { (asked : List PlacedEntry)
+        ensures { (asked : List PlacedEntry) (kvno : Option ℕ)
             → AreTexts (asked_texts (name_in new_name.entry) asked) self.entry.bytes.now self.entry.lens.now
-            → AreNames (asked_as (name_in new_name.entry) asked) result }
+            → AreNames (asked_as (record { name = name_in new_name.entry; kvno = kvno }) asked) result }
     {
         match new_name {
             None => NamesLeft::Own(self),

@@ -1,4 +1,4 @@
-use Rattle.krb_copy.proofs.ForAnswers.{List, asked_as, name_in, subst, arith, PlacedEntry, run_over, drop_all, IsOnTheWay, one_met, all_met, ended, first_left}
+use Rattle.krb_copy.proofs.ForAnswers.{List, asked_as, new_in, subst, arith, PlacedEntry, run_over, drop_all, IsOnTheWay, one_met, all_met, ended, first_left}
 use Rattle.krb_copy.proofs.copy.Copying.go_over.Goals as goal
 
 pub returns-in-Err : goal.returns-in-Err
@@ -14,7 +14,7 @@ asked-preserved g c = λ run s.
 pub returns : goal.returns
 returns g c = λ run s.
     let asked = c.args.asked.now in
-    let name = name_in c.args.new_name in
+    let new = new_in c.args.new.now in
     let replace = c.args.self.now.replace in
-    let due = run_over replace (asked_as name asked) run in
-    all_met due replace c.asked.self (subst (λ (ys : List PlacedEntry). IsOnTheWay due replace (asked_as name ys) c.asked.self) (drop_all c.asked.place-index asked (omega arith)) (c.asked.invariant run s))
+    let due = run_over replace (asked_as new asked) run in
+    all_met due replace c.asked.self (subst (λ (ys : List PlacedEntry). IsOnTheWay due replace (asked_as new ys) c.asked.self) (drop_all c.asked.place-index asked (omega arith)) (c.asked.invariant run s))
