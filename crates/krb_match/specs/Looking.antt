@@ -1,10 +1,10 @@
 -- What is known while the tickets of a cache are looked at.
-use Rattle.std.specs.Prelude.{◌≡◌, ⊤, ℕ, List, ◌++◌, map, is_some, Bool, true, false, not, ◌==◌, length, if◌then◌else◌, Option, None, Some, IfSome}
+use Rattle.std.specs.Prelude.{◌≡◌, ⊤, ℕ, List, ◌++◌, map, is_some, Bool, true, false, not, if◌then◌else◌, Option, None, Some, IfSome}
 use Rattle.std.specs.Option.{option_or}
 use Rattle.krb_keytab.specs.Find.{PlacedEntry, placed_entries}
 use Rattle.krb_keytab.specs.Store.{KeytabState}
 use Rattle.krb_ccache.specs.Store.{PlacedCredential}
-use Rattle.krb_audit.specs.Selection.{AsksFor}
+use Rattle.krb_names.specs.Asked.{AskedParts, asks_for_any}
 use Rattle.krb_match.specs.declared.looking.Judge.{Judge}
 use Rattle.krb_match.specs.declared.keys.Keys.{Keys}
 use Rattle.krb_match.specs.declared.near.NearNames.{NearNames}
@@ -19,22 +19,22 @@ IsNear xs None = ⊤
 IsNear xs (Some near) = AreNear (map (λ x. folded_key x.1.principal) xs) (map (λ x. bare_key x.1.principal) xs) near
 
 -- tickets are judged by entries, names are asked for, and near ones are found if they are wanted
-pub record JudgesBy {A : Type 0} (texts : List (List ℕ)) (wanted : Bool) (xs : List PlacedEntry) (names : List (List ℕ)) (asks : Bool) (entries : KeytabState) (keys : Option (Keys A)) (near : Option (NearNames A)) : Type 0 where
-  pub names_are : AsksFor texts names
-  pub asks_is : asks ≡ not (length texts == 0)
+pub record JudgesBy {A : Type 0} (asked : AskedParts) (wanted : Bool) (xs : List PlacedEntry) (names : AskedParts) (asks : Bool) (entries : KeytabState) (keys : Option (Keys A)) (near : Option (NearNames A)) : Type 0 where
+  pub names_are : names ≡ asked
+  pub asks_is : asks ≡ not (asks_for_any asked)
   pub entries_are : placed_entries entries ≡ xs
   pub keys_are : IfSome keys (AreKeys xs)
   pub near_is : IsNear xs near
   pub wanted_is : is_some near ≡ wanted
 
 -- a judge has those parts
-abbrev pub IsJudge : {A : Type 0} → List (List ℕ) → Bool → List PlacedEntry → Judge A → Type 0
-IsJudge texts wanted xs judge = JudgesBy texts wanted xs judge.names.names judge.asks judge.classes.now judge.keys judge.near.now
+abbrev pub IsJudge : {A B : Type 0} → AskedParts → Bool → List PlacedEntry → Judge A B → Type 0
+IsJudge asked wanted xs judge = JudgesBy asked wanted xs judge.names judge.asks judge.classes.now judge.keys judge.near.now
 
 -- a ticket that is looked at, or nothing
-abbrev pub IsSaid : List (List ℕ) → List PlacedEntry → PlacedCredential → Option MatchedParts → Type 0
-IsSaid texts xs c None = is_looked_at texts xs c.1 ≡ false
-IsSaid texts xs c (Some t) = (is_looked_at texts xs c.1 ≡ true) × (t ≡ matched xs c)
+abbrev pub IsSaid : AskedParts → List PlacedEntry → PlacedCredential → Option MatchedParts → Type 0
+IsSaid asked xs c None = is_looked_at asked xs c.1 ≡ false
+IsSaid asked xs c (Some t) = (is_looked_at asked xs c.1 ≡ true) × (t ≡ matched xs c)
 
 -- the tickets so far, with the rest of those looked at, are all of those
 pub record AreMatched (wanted : Bool) (xs : List PlacedEntry) (rest all : List PlacedCredential) (tickets : List MatchedParts) (near : Option ℕ) : Type 0 where

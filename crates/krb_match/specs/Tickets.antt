@@ -10,21 +10,22 @@ use Rattle.krb_ccache.specs.Config.{is_config}
 use Rattle.krb_ccache.specs.Credential.{CredParts}
 use Rattle.krb_ccache.specs.Store.{CacheState, PlacedCredential, placed_credentials}
 use Rattle.krb_ccache.specs.Ticket.{ticket_encryption}
-use Rattle.krb_audit.specs.Selection.{has_text}
 use Rattle.krb_audit.specs.Tickets.{is_of_gssproxy, is_service}
+use Rattle.krb_names.specs.Asked.{AskedParts, asks_for, asks_for_any}
 use Rattle.krb_match.specs.declared.judgement.Judgement.{Judgement}
 use Rattle.krb_match.specs.declared.judgement.Judgement.TheVariants.{Name}
 use Rattle.krb_match.specs.Match.{has_name, judged, name_of, ticket_of}
 use Rattle.krb_match.specs.Names.{near_entry}
 use Rattle.krb_match.specs.Said.{judgement_line}
 
--- a ticket is asked for: its own server's name or its credential's is one of the names; without names it is for a service, or an entry has its name
-abbrev pub is_asked : List (List ℕ) → List PlacedEntry → CredParts → Bool
-is_asked [] xs c = is_service (name_of c) || has_name (name_of c) xs
-is_asked (n ∷ names) xs c = has_text (n ∷ names) c.server || has_text (n ∷ names) (name_of c)
+-- a ticket is asked for, by its credential's server or by its own; if any name is, it is for a service, or an entry has its name
+abbrev pub is_asked : AskedParts → List PlacedEntry → CredParts → Bool
+is_asked asked xs c =
+    if asks_for_any asked then is_service (name_of c) || has_name (name_of c) xs
+    else asks_for asked c.server || asks_for asked (name_of c)
 
 -- a credential is a ticket that ktmatch looks at: asked for, and not gssproxy's
-abbrev pub is_looked_at : List (List ℕ) → List PlacedEntry → CredParts → Bool
+abbrev pub is_looked_at : AskedParts → List PlacedEntry → CredParts → Bool
 is_looked_at names xs c = not (is_config c) && (not (is_of_gssproxy c.server) && is_asked names xs c)
 
 -- a ticket that ktmatch looked at: its place, its encryption, its name as text, and what the keytab says of it
@@ -47,11 +48,11 @@ abbrev pub matched_line : MatchedParts → List ℕ
 matched_line t = judgement_line t.place t.encryption t.name t.judgement
 
 -- the credentials that ktmatch looks at
-abbrev pub looked_at : List (List ℕ) → List PlacedEntry → List PlacedCredential → List PlacedCredential
+abbrev pub looked_at : AskedParts → List PlacedEntry → List PlacedCredential → List PlacedCredential
 looked_at names xs cs = filter (λ c. is_looked_at names xs c.1) cs
 
 -- what ktmatch says of the tickets of a cache, in file order
-abbrev pub matched_tickets : List (List ℕ) → KeytabState → CacheState → List MatchedParts
+abbrev pub matched_tickets : AskedParts → KeytabState → CacheState → List MatchedParts
 matched_tickets names k c = map (matched (placed_entries k)) (looked_at names (placed_entries k) (placed_credentials c))
 
 -- ---- the entry that is named
@@ -67,5 +68,5 @@ first_near xs [] = None
 first_near xs (c ∷ cs) = option_or (near_by xs (name_of c.1) (said xs c.1)) (first_near xs cs)
 
 -- the number of the entry whose name is nearly that of a ticket of a cache, if it is wanted
-abbrev pub near_ticket : Bool → List (List ℕ) → KeytabState → CacheState → Option ℕ
+abbrev pub near_ticket : Bool → AskedParts → KeytabState → CacheState → Option ℕ
 near_ticket wanted names k c = if wanted then first_near (placed_entries k) (looked_at names (placed_entries k) (placed_credentials c)) else None

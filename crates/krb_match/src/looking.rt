@@ -1,12 +1,12 @@
 //! Which tickets of a cache are looked at, and what is said of each.
 
-ghost use Rattle.std.specs.Prelude.{◌≡◌, ◌∷◌, ℕ, Bool, IfOk, OnOk, List, if◌then◌else◌, is_some, map, None};
+ghost use Rattle.std.specs.Prelude.{◌≡◌, ◌∷◌, Bool, IfOk, OnOk, List, if◌then◌else◌, is_some, map, None};
 ghost use Rattle.std.specs.Option.{option_or};
-ghost use Rattle.std.specs.Vec.{vec_items};
 ghost use Rattle.krb_wire.specs.Spelling.{Parts};
 ghost use Rattle.krb_keytab.specs.Find.{PlacedEntry, placed_entries};
 ghost use Rattle.krb_ccache.specs.Ticket.{ticket_encryption};
 ghost use Rattle.krb_ccache.specs.Store.{PlacedCredential, placed_credentials};
+ghost use Rattle.krb_names.specs.Asked.{AskedParts};
 ghost use Rattle.krb_match.specs.Looking.{AreMatched, IsJudge, IsNear, IsSaid};
 ghost use Rattle.krb_match.specs.Match.{has_name, judged, judged_among, name_of, named, ticket_of};
 ghost use Rattle.krb_match.specs.Names.{name_key};
@@ -19,8 +19,9 @@ use crate::keys::Keys;
 use crate::names::key_over;
 use crate::near::NearNames;
 use crate::ticket::{MatchedTicket, name_of, names_server};
-use krb_audit::{NameFilter, is_of_gssproxy, is_service};
+use krb_audit::{is_of_gssproxy, is_service};
 use krb_ccache::{Ccache, CredView, TicketEncryption, is_config, read_own};
+use krb_names::{AskedNames, NameFilter};
 use krb_wire::{Name, NoMemory};
 use std::alloc::Allocator;
 
@@ -35,24 +36,24 @@ pub struct Matched<A: Allocator> {
 }
 
 // What judges tickets: the entries, by all that tickets ask for once that was needed, near names if they are wanted, the
-// names asked for, and whether there are any. `scratch` is space for a name.
+// names asked for, and whether not any is. `scratch` is space for a name.
 #[derive(Drop)]
-struct Judge<'m, 'k, 't, A: Allocator> {
+struct Judge<'m, 'k, 't, A: Allocator, B: Allocator> {
     alloc: A,
     classes: &'m Classes<'k, A>,
     keys: Option<Keys<'k, A>>,
     near: &'m Option<NearNames<'k, A>>,
-    names: NameFilter<'t, A>,
+    names: NameFilter<'t, A, B>,
     asks: bool,
     scratch: Vec<u8, A>,
 }
 
-impl<'k, A: Allocator + Copy> Judge<'_, 'k, '_, A> {
+impl<'k, A: Allocator + Copy, B: Allocator> Judge<'_, 'k, '_, A, B> {
     // Returns the entries by all that tickets ask for.
     fn take_keys(&mut self) -> Result<Keys<'k, A>, NoMemory>
-        ensures kept { (texts : List (List ℕ)) (wanted : Bool) (xs : List PlacedEntry) → IsJudge texts wanted xs self.old
-            → IsJudge texts wanted xs self.new }
-        ensures keys { (texts : List (List ℕ)) (wanted : Bool) (xs : List PlacedEntry) → IsJudge texts wanted xs self.old
+        ensures kept { (asked : AskedParts) (wanted : Bool) (xs : List PlacedEntry) → IsJudge asked wanted xs self.old
+            → IsJudge asked wanted xs self.new }
+        ensures keys { (asked : AskedParts) (wanted : Bool) (xs : List PlacedEntry) → IsJudge asked wanted xs self.old
             → IfOk result (AreKeys xs) }
     {
         match self.keys.take() {
@@ -63,10 +64,10 @@ impl<'k, A: Allocator + Copy> Judge<'_, 'k, '_, A> {
 
     // Returns whether an entry has the name with that key.
     fn has(&mut self, key: &[u8]) -> Result<bool, NoMemory>
-        ensures kept { (texts : List (List ℕ)) (wanted : Bool) (xs : List PlacedEntry) → IsJudge texts wanted xs self.old
-            → IsJudge texts wanted xs self.new }
-        ensures has { (texts : List (List ℕ)) (wanted : Bool) (xs : List PlacedEntry) (p : Parts)
-            → IsJudge texts wanted xs self.old → key.now ≡ name_key p → IfOk result (λ b. b ≡ has_name p xs) }
+        ensures kept { (asked : AskedParts) (wanted : Bool) (xs : List PlacedEntry) → IsJudge asked wanted xs self.old
+            → IsJudge asked wanted xs self.new }
+        ensures has { (asked : AskedParts) (wanted : Bool) (xs : List PlacedEntry) (p : Parts)
+            → IsJudge asked wanted xs self.old → key.now ≡ name_key p → IfOk result (λ b. b ≡ has_name p xs) }
     {
         let keys = self.take_keys()?;
         let has = keys.has(key);
@@ -81,11 +82,11 @@ impl<'k, A: Allocator + Copy> Judge<'_, 'k, '_, A> {
         name: &N,
         key: &[u8],
     ) -> Result<bool, NoMemory>
-        ensures kept { (texts : List (List ℕ)) (wanted : Bool) (xs : List PlacedEntry) → IsJudge texts wanted xs self.old
-            → IsJudge texts wanted xs self.new }
-        ensures asked { (texts : List (List ℕ)) (wanted : Bool) (xs : List PlacedEntry) → IsJudge texts wanted xs self.old
+        ensures kept { (asked : AskedParts) (wanted : Bool) (xs : List PlacedEntry) → IsJudge asked wanted xs self.old
+            → IsJudge asked wanted xs self.new }
+        ensures asked { (asked : AskedParts) (wanted : Bool) (xs : List PlacedEntry) → IsJudge asked wanted xs self.old
             → N.parts name.now ≡ name_of ticket.now → key.now ≡ name_key (N.parts name.now)
-            → IfOk result (λ b. b ≡ is_asked texts xs ticket.now) }
+            → IfOk result (λ b. b ≡ is_asked asked xs ticket.now) }
     {
         if self.asks {
             return Ok(self.names.passes(ticket.server())? || self.names.passes(name)?);
@@ -102,10 +103,10 @@ impl<'k, A: Allocator + Copy> Judge<'_, 'k, '_, A> {
         encryption: TicketEncryption,
         key: &[u8],
     ) -> Result<Judgement, NoMemory>
-        ensures kept { (texts : List (List ℕ)) (wanted : Bool) (xs : List PlacedEntry) → IsJudge texts wanted xs self.old
-            → IsJudge texts wanted xs self.new }
-        ensures said { (texts : List (List ℕ)) (wanted : Bool) (xs : List PlacedEntry) (p : Parts)
-            → IsJudge texts wanted xs self.old → key.now ≡ name_key p
+        ensures kept { (asked : AskedParts) (wanted : Bool) (xs : List PlacedEntry) → IsJudge asked wanted xs self.old
+            → IsJudge asked wanted xs self.new }
+        ensures said { (asked : AskedParts) (wanted : Bool) (xs : List PlacedEntry) (p : Parts)
+            → IsJudge asked wanted xs self.old → key.now ≡ name_key p
             → IfOk result (λ j. j ≡ judged_among encryption (named p xs)) }
     {
         if let Some(place) = self.classes.opener(encryption, key) {
@@ -124,10 +125,10 @@ impl<'k, A: Allocator + Copy> Judge<'_, 'k, '_, A> {
         encryption: Option<TicketEncryption>,
         key: &[u8],
     ) -> Result<Judgement, NoMemory>
-        ensures kept { (texts : List (List ℕ)) (wanted : Bool) (xs : List PlacedEntry) → IsJudge texts wanted xs self.old
-            → IsJudge texts wanted xs self.new }
-        ensures said { (texts : List (List ℕ)) (wanted : Bool) (xs : List PlacedEntry) (p : Parts)
-            → IsJudge texts wanted xs self.old → key.now ≡ name_key p → encryption ≡ ticket_encryption ticket.now.ticket
+        ensures kept { (asked : AskedParts) (wanted : Bool) (xs : List PlacedEntry) → IsJudge asked wanted xs self.old
+            → IsJudge asked wanted xs self.new }
+        ensures said { (asked : AskedParts) (wanted : Bool) (xs : List PlacedEntry) (p : Parts)
+            → IsJudge asked wanted xs self.old → key.now ≡ name_key p → encryption ≡ ticket_encryption ticket.now.ticket
             → IfOk result (λ j. j ≡ judged xs (ticket_of ticket.now p)) }
     {
         if ticket.is_skey() != 0 {
@@ -147,11 +148,11 @@ impl<'k, A: Allocator + Copy> Judge<'_, 'k, '_, A> {
         name: &N,
         encryption: Option<TicketEncryption>,
     ) -> Result<Option<MatchedTicket<A>>, NoMemory>
-        ensures kept { (texts : List (List ℕ)) (wanted : Bool) (xs : List PlacedEntry) → IsJudge texts wanted xs self.old
-            → IsJudge texts wanted xs self.new }
-        ensures said { (texts : List (List ℕ)) (wanted : Bool) (xs : List PlacedEntry) → IsJudge texts wanted xs self.old
+        ensures kept { (asked : AskedParts) (wanted : Bool) (xs : List PlacedEntry) → IsJudge asked wanted xs self.old
+            → IsJudge asked wanted xs self.new }
+        ensures said { (asked : AskedParts) (wanted : Bool) (xs : List PlacedEntry) → IsJudge asked wanted xs self.old
             → N.parts name.now ≡ name_of ticket.now → encryption ≡ ticket_encryption ticket.now.ticket
-            → IfOk result (IsSaid texts xs (place, ticket.now)) }
+            → IfOk result (IsSaid asked xs (place, ticket.now)) }
     {
         if is_config(ticket) || is_of_gssproxy(ticket.server()) {
             return Ok(None);
@@ -177,7 +178,7 @@ impl<'k, A: Allocator + Copy> Judge<'_, 'k, '_, A> {
         name: &N,
         judgement: &Judgement,
     ) -> Result<Option<usize>, NoMemory>
-        ensures { (texts : List (List ℕ)) (wanted : Bool) (xs : List PlacedEntry) → IsJudge texts wanted xs self.now
+        ensures { (asked : AskedParts) (wanted : Bool) (xs : List PlacedEntry) → IsJudge asked wanted xs self.now
             → IfOk result (λ n. n ≡ option_or near (if wanted then near_by xs (N.parts name.now) judgement.now else None)) }
     {
         match (near, self.near, judgement) {
@@ -189,21 +190,21 @@ impl<'k, A: Allocator + Copy> Judge<'_, 'k, '_, A> {
 
 impl<A: Allocator + Copy> Matched<A> {
     // Adds the next credential if it is a ticket that is looked at, under that name and with that encryption.
-    fn add_as<N: Name>(
+    fn add_as<N: Name, B: Allocator>(
         &mut self,
-        judge: &mut Judge<'_, '_, '_, A>,
+        judge: &mut Judge<'_, '_, '_, A, B>,
         place: u32,
         ticket: &CredView<'_>,
         name: &N,
         encryption: Option<TicketEncryption>,
     ) -> Result<(), NoMemory>
-        ensures kept { (texts : List (List ℕ)) (wanted : Bool) (xs : List PlacedEntry) → IsJudge texts wanted xs judge.old
-            → IsJudge texts wanted xs judge.new }
-        ensures matched { (texts : List (List ℕ)) (wanted : Bool) (xs : List PlacedEntry) (rest all : List PlacedCredential)
-            → IsJudge texts wanted xs judge.old
+        ensures kept { (asked : AskedParts) (wanted : Bool) (xs : List PlacedEntry) → IsJudge asked wanted xs judge.old
+            → IsJudge asked wanted xs judge.new }
+        ensures matched { (asked : AskedParts) (wanted : Bool) (xs : List PlacedEntry) (rest all : List PlacedCredential)
+            → IsJudge asked wanted xs judge.old
             → N.parts name.now ≡ name_of ticket.now → encryption ≡ ticket_encryption ticket.now.ticket
-            → AreMatched wanted xs (looked_at texts xs ((place, ticket.now) ∷ rest)) all self.old.tickets.items self.old.near
-            → OnOk result (AreMatched wanted xs (looked_at texts xs rest) all self.new.tickets.items self.new.near) }
+            → AreMatched wanted xs (looked_at asked xs ((place, ticket.now) ∷ rest)) all self.old.tickets.items self.old.near
+            → OnOk result (AreMatched wanted xs (looked_at asked xs rest) all self.new.tickets.items self.new.near) }
     {
         match judge.looked_at(place, ticket, name, encryption)? {
             Some(ticket) => {
@@ -215,18 +216,18 @@ impl<A: Allocator + Copy> Matched<A> {
     }
 
     // Adds the next credential if it is looked at. Most tickets name their credential's server, whose name needs no copy.
-    fn consider(
+    fn consider<B: Allocator>(
         &mut self,
-        judge: &mut Judge<'_, '_, '_, A>,
+        judge: &mut Judge<'_, '_, '_, A, B>,
         place: u32,
         ticket: &CredView<'_>,
     ) -> Result<(), NoMemory>
-        ensures kept { (texts : List (List ℕ)) (wanted : Bool) (xs : List PlacedEntry) → IsJudge texts wanted xs judge.old
-            → IsJudge texts wanted xs judge.new }
-        ensures matched { (texts : List (List ℕ)) (wanted : Bool) (xs : List PlacedEntry) (rest all : List PlacedCredential)
-            → IsJudge texts wanted xs judge.old
-            → AreMatched wanted xs (looked_at texts xs ((place, ticket.now) ∷ rest)) all self.old.tickets.items self.old.near
-            → OnOk result (AreMatched wanted xs (looked_at texts xs rest) all self.new.tickets.items self.new.near) }
+        ensures kept { (asked : AskedParts) (wanted : Bool) (xs : List PlacedEntry) → IsJudge asked wanted xs judge.old
+            → IsJudge asked wanted xs judge.new }
+        ensures matched { (asked : AskedParts) (wanted : Bool) (xs : List PlacedEntry) (rest all : List PlacedCredential)
+            → IsJudge asked wanted xs judge.old
+            → AreMatched wanted xs (looked_at asked xs ((place, ticket.now) ∷ rest)) all self.old.tickets.items self.old.near
+            → OnOk result (AreMatched wanted xs (looked_at asked xs rest) all self.new.tickets.items self.new.near) }
     {
         let (own, encryption) = read_own(ticket.ticket());
         if names_server(own, ticket) {
@@ -237,18 +238,18 @@ impl<A: Allocator + Copy> Matched<A> {
     }
 }
 
-/// Returns the tickets of a cache that are looked at, each with what is said of it: those that are asked for by their names
-/// as these are printed, or all of services if there are none.
+/// Returns the tickets of a cache that are looked at, each with what is said of it: those that are asked for by their
+/// names, or all of services if any name is.
 pub fn match_tickets<'m, 'k, A: Allocator + Copy, B: Allocator, C: Allocator>(
     alloc: A,
     classes: &'m Classes<'k, A>,
     near: &'m Option<NearNames<'k, A>>,
-    names: &[Vec<u8, B>],
+    names: &AskedNames<B>,
     cache: &Ccache<C>,
 ) -> Result<Matched<A>, NoMemory>
     ensures { (xs : List PlacedEntry) → placed_entries classes.now ≡ xs → IsNear xs near.now
-        → IfOk result (λ m. (m.tickets.items ≡ map (matched xs) (looked_at (map vec_items names.now) xs (placed_credentials cache.now.state)))
-        × (m.near ≡ (if is_some near.now then first_near xs (looked_at (map vec_items names.now) xs (placed_credentials cache.now.state)) else None))) }
+        → IfOk result (λ m. (m.tickets.items ≡ map (matched xs) (looked_at names.now xs (placed_credentials cache.now.state)))
+        × (m.near ≡ (if is_some near.now then first_near xs (looked_at names.now xs (placed_credentials cache.now.state)) else None))) }
 {
     let mut judge = Judge {
         alloc,
@@ -256,7 +257,7 @@ pub fn match_tickets<'m, 'k, A: Allocator + Copy, B: Allocator, C: Allocator>(
         keys: None,
         near,
         names: NameFilter::of(alloc, names)?,
-        asks: !names.is_empty(),
+        asks: !names.is_any(),
         scratch: Vec::new(alloc),
     };
     let mut matched = Matched {

@@ -1,7 +1,6 @@
 //! A keytab by whose entries the tickets of caches are matched.
 
-ghost use Rattle.std.specs.Prelude.{◌≡◌, IfOk, is_some, map};
-ghost use Rattle.std.specs.Vec.{vec_items};
+ghost use Rattle.std.specs.Prelude.{◌≡◌, IfOk, is_some};
 ghost use Rattle.krb_keytab.specs.Find.{placed_entries};
 ghost use Rattle.krb_match.specs.Names.{AreNames, entry_text};
 ghost use Rattle.krb_match.specs.Tickets.{matched_tickets, near_ticket};
@@ -12,6 +11,7 @@ use crate::names::EntryNames;
 use crate::near::NearNames;
 use krb_ccache::Ccache;
 use krb_keytab::Keytab;
+use krb_names::AskedNames;
 use krb_wire::NoMemory;
 use std::alloc::Allocator;
 use std::marker::Model;
@@ -57,15 +57,15 @@ impl<'k, A: Allocator + Copy> Matcher<'k, A> {
     }
 
     /// Returns the tickets of a cache that are looked at, each with what is said of it: those that are asked for by their
-    /// names as these are printed, or all of services if there are none. Also the entry that is named.
+    /// names, or all of services if any name is. Also the entry that is named.
     pub fn judge<B: Allocator>(
         &self,
         alloc: A,
-        names: &[Vec<u8, B>],
+        names: &AskedNames<B>,
         cache: &Ccache<A>,
     ) -> Result<Matched<A>, NoMemory>
-        ensures tickets { IfOk result (λ m. m.tickets.items ≡ matched_tickets (map vec_items names.now) self.now.0 cache.now.state) }
-        ensures near { IfOk result (λ m. m.near ≡ near_ticket self.now.1 (map vec_items names.now) self.now.0 cache.now.state) }
+        ensures tickets { IfOk result (λ m. m.tickets.items ≡ matched_tickets names.now self.now.0 cache.now.state) }
+        ensures near { IfOk result (λ m. m.near ≡ near_ticket self.now.1 names.now self.now.0 cache.now.state) }
     {
         Ok(match_tickets(alloc, &self.classes, &self.near, names, cache)?)
     }

@@ -1,4 +1,4 @@
-use Rattle.krb_match.proofs.Cited.{List, map, is_some, vec_items, PlacedEntry, placed_entries, ◌≡◌}
+use Rattle.krb_match.proofs.Cited.{List, is_some, PlacedEntry, placed_entries, ◌≡◌}
 use Rattle.krb_ccache.specs.Store.{placed_credentials}
 use Rattle.krb_match.specs.Looking.{AreMatched, IsJudge, IsNear}
 use Rattle.krb_match.specs.Tickets.{looked_at}
@@ -6,4 +6,4 @@ use Rattle.krb_match.proofs.looking.match_tickets.Given as goal
 
 -- the credentials so far were considered
 abbrev pub invariant-credentials : goal.invariant-credentials
-invariant-credentials g l = (xs : List PlacedEntry) → placed_entries l.classes ≡ xs → IsNear xs l.near → IsJudge (map vec_items l.names) (is_some l.near) xs l.judge × AreMatched (is_some l.near) xs (looked_at (map vec_items l.names) xs l.place-iterator) (looked_at (map vec_items l.names) xs (placed_credentials l.cache.state)) l.matched.tickets.items l.matched.near
+invariant-credentials g l = (xs : List PlacedEntry) → placed_entries l.classes ≡ xs → IsNear xs l.near → IsJudge l.names (is_some l.near) xs l.judge × AreMatched (is_some l.near) xs (looked_at l.names xs l.place-iterator) (looked_at l.names xs (placed_credentials l.cache.state)) l.matched.tickets.items l.matched.near
