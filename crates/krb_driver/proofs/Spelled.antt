@@ -1,8 +1,12 @@
 -- What words spell, one after the other.
-use Rattle.std.proofs.Common.{◌≡◌, ℕ, ◌+◌, ◌<◌, List, [], ◌∷◌, ◌++◌, length, map, take, drop, get_or, Bor, None, Some, Result, Ok, Err, refl, sym, ap, ◌∙◌}
+use Rattle.std.proofs.Common.{◌≡◌, ℕ, ◌+◌, ◌<◌, List, [], ◌∷◌, ◌++◌, length, map, take, drop, get_or, Bor, None, Some, ◌⊎◌, inl, inr, Result, Ok, Err, append-nil, refl, sym, ap, ◌∙◌}
 use Rattle.std.proofs.lemmas.List.{drop_more, map_push, take_more}
-use Rattle.std.specs.Prelude.{IfOk, IsOkAnd, Vec, option_map}
+use Rattle.std.proofs.lemmas.List.Concat.{flat_map-append}
+use Rattle.std.specs.List.{flat_map}
+use Rattle.std.specs.Prelude.{IfOk, IsOk, IsOkAnd, Vec, option_map}
 use Rattle.krb_wire.specs.declared.memory.NoMemory.{NoMemory}
+use Rattle.krb_wire.specs.declared.name_fault.NameFault.{NameFault}
+use Rattle.krb_wire.specs.declared.name_fault.NameFault.TheVariants as fault
 use Rattle.std.specs.Result.{result_err}
 use Rattle.krb_driver.specs.Loading.{result_map, result_map_err}
 use Rattle.krb_driver.specs.Mistakes.{MistakeParts}
@@ -91,3 +95,32 @@ mapped_err g (Err m) = refl
 pub mistake_of : {X E : Type 0} (why : E → MistakeParts) (given : Result X E) → result_err (result_map_err why given) ≡ option_map why (result_err given)
 mistake_of why (Ok x) = refl
 mistake_of why (Err e) = refl
+
+-- a text for which a reader ran out of memory has no fault
+pub no_fault : {X : Type 0} (x : Result X NameFault) (why : NameFault) → why ≡ fault.NoMemory → (x ≡ Err fault.NoMemory → ⊥) → (x ≡ Err why) ⊎ ((why ≡ fault.NoMemory) × IsOk x) → result_err x ≡ None
+no_fault (Ok x) why is never h = refl
+no_fault (Err e) why is never (inl given) = absurd (never (cc (is, given)))
+no_fault (Err e) why is never (inr ok) = absurd (cc ok.1)
+
+-- ---- lists of values
+
+abbrev pub joined : {X : Type 0} → List (List X) → List X
+joined lists = flat_map (λ list. list) lists
+
+joined_push : {X : Type 0} (lists : List (List X)) (v : List X) → joined (lists ++ v ∷ []) ≡ joined lists ++ v
+joined_push {X} lists v = flat_map-append (λ list. list) lists (v ∷ []) ∙ ap (λ (xs : List X). joined lists ++ xs) (append-nil v)
+
+-- with the list of one more word there are the values of one list more
+module _ {X : Type 0} (f : List ℕ → Result (List X) MistakeParts) (words : List (Bor (List ℕ))) (i : ℕ) (d : Bor (List ℕ)) (below : i < length words) where
+  one_more : (spelled : Result (List (List X)) MistakeParts) (vs : List X) (v : List X) → each f (texts (take i words)) ≡ spelled → result_map joined spelled ≡ Ok vs → f (get_or words i d).now ≡ Ok v
+      → result_map joined (each f (texts (take (i + 1) words))) ≡ Ok (vs ++ v)
+  one_more (Ok lists) vs v are so is = rw (more f words i d below lists v is are) (ap Ok (joined_push lists v ∙ ap (λ (xs : List X). xs ++ v) (cc so)))
+  one_more (Err m) vs v are so is = absurd cc
+
+  pub lists_more : {A : Type 0} (given value result : Result (Vec X A) NoMemory) → IfOk given (λ vs. result_map joined (each f (texts (take i words))) ≡ Ok vs.items)
+      → IfOk value (λ v. f (get_or words i d).now ≡ Ok v.items) → IfOk result (λ all. IsOkAnd given (λ given. IsOkAnd value (λ v. all.items ≡ given.items ++ v.items)))
+      → IfOk result (λ all. result_map joined (each f (texts (take (i + 1) words))) ≡ Ok all.items)
+  lists_more given value (Err e) are is made = tt
+  lists_more (Ok given) (Ok v) (Ok all) are is made = rw made (one_more _ given.items v.items refl are is)
+  lists_more (Err e) value (Ok all) are is made = absurd made
+  lists_more (Ok given) (Err e) (Ok all) are is made = absurd made

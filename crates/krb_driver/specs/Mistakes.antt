@@ -88,6 +88,9 @@ no_etype word = Quoted word (codes " is no encryption type") []
 abbrev pub no_time : List ℕ → MistakeParts
 no_time word = Quoted word (codes " is no time (90, 15m, 10h, 7d)") []
 
+abbrev pub no_count : List ℕ → MistakeParts
+no_count word = Quoted word (codes " is no count") []
+
 abbrev pub no_finding : List ℕ → MistakeParts
 no_finding word = Quoted word (codes " is no finding") []
 

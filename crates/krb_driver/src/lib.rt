@@ -21,9 +21,12 @@ pub use command::{Command, FileError, Made, MakeResult, Output, RunEnd, Show, Wo
 pub use command_line::matches::{Matches, first_value, refuse_twice, times_given, typed, v1_order};
 pub use command_line::mistake::{BadLine, Mistake, More, Phrase, WordFault};
 pub use command_line::spelled::{
-    Spelled, spelled_etype, spelled_etypes, spelled_name, spelled_names, spelled_seconds,
+    Spelled, spelled_asked, spelled_count, spelled_etype, spelled_etypes, spelled_name,
+    spelled_names, spelled_seconds, spelled_version,
 };
-pub use command_line::words::{CommandName, CommandWords, DRY_RUN, IN_PLACE, V1_BIG, Word};
+pub use command_line::words::{
+    CommandName, CommandWords, DRY_RUN, IN_PLACE, OF_PATTERN, V1_BIG, Word,
+};
 pub use either::{Contents, EitherUse};
 pub use error::{RunError, is_spent};
 pub use file_name::{FileName, NameSource, append_name, type_of};

@@ -52,6 +52,8 @@ impl Phrase<'static> {
     pub const NO_ETYPE: Self = Phrase::Quoted(" is no encryption type");
     /// Of a word in the place of a time.
     pub const NO_TIME: Self = Phrase::Quoted(" is no time (90, 15m, 10h, 7d)");
+    /// Of a word in the place of a count.
+    pub const NO_COUNT: Self = Phrase::Quoted(" is no count");
     /// Of a word in the place of a finding.
     pub const NO_FINDING: Self = Phrase::Quoted(" is no finding");
     /// Of a name, and of what is wrong with it.

@@ -54,3 +54,10 @@ pub const IN_PLACE: Word = Word::LongFlag(
 
 /// The flag `-n`, `--dry-run`.
 pub const DRY_RUN: Word = Word::Flag("dry-run", 'n', "Show what would be removed; change nothing");
+
+/// The option `--match`, beside that of names.
+pub const OF_PATTERN: Word = Word::LongValued(
+    "match",
+    "PATTERN",
+    "Those whose name and realm fit, with * for any bytes; may be repeated",
+);

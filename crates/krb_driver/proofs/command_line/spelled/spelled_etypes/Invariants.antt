@@ -1,10 +1,10 @@
 use Rattle.krb_driver.proofs.Cited.{◌≡◌, drop, map, take, IfOk, Ok}
 use Rattle.std.specs.Result.{result_err}
-use Rattle.krb_driver.specs.Spelled.{each, spelled_etype}
+use Rattle.krb_driver.specs.Spelled.{each, selected_etypes, spelled_etypes}
 use Rattle.krb_driver.proofs.command_line.spelled.spelled_etypes.Given as goal
 
--- the words that are left have the mistakes of all, and the values so far are those that the words before spell
+-- the words that are left have the mistakes of all, and the types so far are those that the words before select
 abbrev pub invariant-words : goal.invariant-words
 invariant-words g l =
-    (result_err (each spelled_etype (map (λ word. word.now) (drop l.word-index l.words))) ≡ result_err (each spelled_etype (map (λ word. word.now) l.words)))
-    × IfOk l.etypes (λ e. each spelled_etype (map (λ word. word.now) (take l.word-index l.words)) ≡ Ok e.items)
+    (result_err (each selected_etypes (map (λ word. word.now) (drop l.word-index l.words))) ≡ result_err (each selected_etypes (map (λ word. word.now) l.words)))
+    × IfOk l.etypes (λ e. spelled_etypes (map (λ word. word.now) (take l.word-index l.words)) ≡ Ok e.items)
