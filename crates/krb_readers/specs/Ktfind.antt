@@ -1,5 +1,5 @@
 -- What ktfind does.
-use Rattle.std.specs.Prelude.{ℕ, List, codes, ok_or, Result, Ok, Err}
+use Rattle.std.specs.Prelude.{ℕ, List, codes, Result, Ok, Err}
 use Rattle.krb_wire.specs.declared.format.Order.{Order}
 use Rattle.krb_wire.specs.Spelling.{Parts}
 use Rattle.krb_walk.specs.declared.refusal.Code.{Code}
@@ -7,14 +7,13 @@ use Rattle.krb_keytab.specs.Find.{PlacedEntry, find_result}
 use Rattle.krb_keytab.specs.Store.{KeytabState}
 use Rattle.krb_files.specs.Plan.{Ends}
 use Rattle.krb_keytab_text.specs.Listing.{found_line}
-use Rattle.krb_text.specs.Numbers.{number_in}
 use Rattle.krb_driver.specs.declared.error.RunError.TheVariants.{Refused}
 use Rattle.krb_driver.specs.declared.verdict.FileKind.TheVariants.{Keytab}
 use Rattle.krb_driver.specs.declared.verdict.Verdict.TheVariants.{Well}
 use Rattle.krb_driver.specs.declared.file_name.FileName.{FileName}
 use Rattle.krb_driver.specs.Commands.{CommandPlan, Effect, Fails, Displays, opens, text}
-use Rattle.krb_driver.specs.Mistakes.{Matched, v1_order, MistakeParts, no_version}
-use Rattle.krb_driver.specs.Spelled.{◌>>=◌, spelled_etype, spelled_name}
+use Rattle.krb_driver.specs.Mistakes.{Matched, v1_order, MistakeParts}
+use Rattle.krb_driver.specs.Spelled.{◌>>=◌, spelled_etype, spelled_name, spelled_version}
 use Rattle.krb_driver.specs.Loading.{keytab_in}
 
 -- what ktfind looks for: a name, a kvno or 0 for the highest, an enctype or 0 for any; and the byte order of version 1 keytabs
@@ -38,10 +37,6 @@ abbrev pub ktfind_plan : EntrySought → FileName → CommandPlan
 ktfind_plan o file = opens file (keytab_in o.v1_order) (λ k. Ends (finds o file.name.now k))
 
 -- ---- what the words ask for
-
--- the kvno that a word spells
-abbrev pub spelled_version : List ℕ → Result ℕ MistakeParts
-spelled_version word = ok_or (number_in 32 word) (no_version word)
 
 -- what the words of ktfind ask for, or their first mistake
 abbrev pub entry_sought_of : Matched → Result EntrySought MistakeParts

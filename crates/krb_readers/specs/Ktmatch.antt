@@ -11,6 +11,7 @@ use Rattle.krb_files.specs.Plan.{Ends}
 use Rattle.krb_audit.specs.Report.{labelled_fault}
 use Rattle.krb_findings.specs.Table.{joined, none, row_of, with_if, without}
 use Rattle.krb_findings.specs.declared.finding_set.FindingSet.{FindingSet}
+use Rattle.krb_names.specs.Asked.{asks_for_any}
 use Rattle.krb_match.specs.declared.judgement.Judgement.{Judgement}
 use Rattle.krb_match.specs.Names.{entry_text}
 use Rattle.krb_match.specs.Said.{finding_of, is_wrong}
@@ -65,9 +66,9 @@ words_of quiet ts = fold (λ words t. words_with words quiet t.judgement) none t
 abbrev pub are_wrong : List MatchedParts → Bool
 are_wrong ts = list_any (λ t. is_wrong t.judgement) ts
 
--- which tickets ktmatch looks at: those for services, or those that `-p` names
+-- which tickets ktmatch looks at: those for services, or those that `-p` and `--match` name
 abbrev pub sought : TicketMatch → TicketsSought
-sought o = if length o.names == 0 then OfServices else Asked
+sought o = if asks_for_any o.names then OfServices else Asked
 
 -- the findings to explain of what is printed: of JSON all, and none if its object is left out
 abbrev pub words_shown : TicketMatch → Bool → List MatchedParts → FindingSet

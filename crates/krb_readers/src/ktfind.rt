@@ -2,18 +2,17 @@
 
 ghost use Rattle.krb_driver.specs.Commands.{Runs, always, any, IsMade};
 ghost use Rattle.krb_driver.specs.Composing.{text_effect};
-ghost use Rattle.krb_readers.specs.Ktfind.{entry_sought_of, finds, ktfind_plan, spelled_version};
-ghost use Rattle.krb_driver.specs.Spelled.{ReadsAs, Spells};
+ghost use Rattle.krb_readers.specs.Ktfind.{entry_sought_of, finds, ktfind_plan};
+ghost use Rattle.krb_driver.specs.Spelled.{ReadsAs};
 
 use krb_driver::{
     Command, CommandName, CommandWords, FileError, FileKind, FileName, KeytabUse, Made, MakeResult,
-    Matches, Mistake, Output, Phrase, RunError, V1_BIG, Verdict, Word, WordFault, World, open, run,
-    spelled_etype, spelled_name, v1_order,
+    Matches, Output, RunError, V1_BIG, Verdict, Word, WordFault, World, open, run, spelled_etype,
+    spelled_name, spelled_version, v1_order,
 };
 use krb_files::Files;
 use krb_keytab::Keytab;
 use krb_keytab_text::found_text;
-use krb_text::parse_u32;
 use krb_wire::{Order, Principal};
 use std::alloc::{Allocator, Global};
 use std::io::{Read, Write};
@@ -69,16 +68,6 @@ impl<A: Allocator> Model for FindOptions<A> {
       enctype = o.enctype;
       v1_order = o.v1_order;
     } };
-}
-
-// Parses a word as a kvno.
-fn spelled_version<'a>(word: &'a str) -> Result<u32, Mistake<'a>>
-    ensures { Spells (spelled_version word.now) result }
-{
-    match parse_u32(word.as_bytes()) {
-        Some(kvno) => Ok(kvno),
-        None => Err(Phrase::NO_VERSION.of(word)),
-    }
 }
 
 /// Parses the words of ktfind: a kvno, an enctype, and a principal with its realm.

@@ -99,7 +99,7 @@ fn are_wrong<B: Allocator>(tickets: &[MatchedTicket<B>]) -> bool
 pub fn sought<B: Allocator>(options: &MatchOptions<B>) -> TicketsSought
     ensures { result ≡ sought options.now }
 {
-    if options.names.is_empty() {
+    if options.names.is_any() {
         TicketsSought::OfServices
     } else {
         TicketsSought::Asked

@@ -4,8 +4,10 @@ ghost use Rattle.krb_driver.specs.Spelled.{ReadsAs};
 ghost use Rattle.krb_readers.specs.KtmatchWords.{ticket_match_of};
 
 use krb_driver::{
-    CommandName, CommandWords, Matches, V1_BIG, Word, WordFault, spelled_names, v1_order,
+    CommandName, CommandWords, Matches, OF_PATTERN, V1_BIG, Word, WordFault, spelled_asked,
+    v1_order,
 };
+use krb_names::AskedNames;
 use krb_wire::Order;
 use std::alloc::{Allocator, Global};
 use std::marker::Model;
@@ -15,7 +17,7 @@ pub const KTMATCH: CommandWords = CommandWords {
     command: CommandName::Ktmatch,
     name: "ktmatch",
     about: "Says whether a keytab opens tickets",
-    usage: "krbfile ktmatch [--v1-big] [-q] [-H] [--json] [-p NAME].. KEYTAB [CACHE..]",
+    usage: "krbfile ktmatch [--v1-big] [-q] [-H] [--json] [-p NAME].. [--match PATTERN].. KEYTAB [CACHE..]",
     after_help: Some(
         "\
 Without CACHE it takes the cache that KRB5CCNAME names, else /tmp/krb5cc_UID.
@@ -50,6 +52,7 @@ Example: whether a service can open the tickets of a cache
             "NAME",
             "Tickets for that name, with its realm; may be repeated",
         ),
+        OF_PATTERN,
         Word::Operand("KEYTAB", "The keytab of the service"),
         Word::Operands("CACHE", "The caches whose tickets to match"),
     ],
@@ -66,13 +69,11 @@ pub struct MatchOptions<A: Allocator> {
     pub json: bool,
     /// Lines begin with the name of their cache, of one cache too.
     pub with_filename: bool,
-    /// The names of the tickets to look at, as they are printed; all of services if there are none.
-    pub names: Vec<Vec<u8, A>, A>,
+    /// The names of the tickets to look at; those of services if any is asked for.
+    pub names: AskedNames<A>,
 }
 
 impl<A: Allocator> Model for MatchOptions<A> {
-    ghost use Rattle.std.specs.Prelude.{map};
-    ghost use Rattle.std.specs.Vec.{vec_items};
     ghost use Rattle.krb_readers.specs.KtmatchWords.{TicketMatch};
 
     ghost Value = { TicketMatch };
@@ -82,18 +83,18 @@ impl<A: Allocator> Model for MatchOptions<A> {
       quiet = o.quiet;
       json = o.json;
       with_filename = o.with_filename;
-      names = map vec_items o.names.items;
+      names = o.names;
     } };
 }
 
-/// Returns the options of ktmatch. Refuses a bad name.
+/// Returns the options of ktmatch. Refuses a bad name or pattern.
 pub fn match_options<'a, M: Matches<'a>>(
     alloc: Global,
     matches: &M,
 ) -> Result<MatchOptions<Global>, WordFault<'a>>
     ensures { ReadsAs (ticket_match_of (M.matched matches.now)) result }
 {
-    let names = spelled_names(alloc, matches, "principal")?;
+    let names = spelled_asked(alloc, matches, "principal")?;
     Ok(MatchOptions {
         v1_order: v1_order(matches),
         quiet: matches.flag("quiet"),

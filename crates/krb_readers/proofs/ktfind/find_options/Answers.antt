@@ -4,9 +4,9 @@ use Rattle.std.specs.Result.{result_err}
 use Rattle.krb_wire.specs.Reading.{principal_parts}
 use Rattle.krb_wire.specs.Spelling.{Parts}
 use Rattle.krb_driver.specs.Mistakes.{Matched, v1_order}
-use Rattle.krb_driver.specs.Spelled.{◌>>=◌, spelled_etype, spelled_name}
+use Rattle.krb_driver.specs.Spelled.{◌>>=◌, spelled_etype, spelled_name, spelled_version}
 use Rattle.krb_driver.proofs.Spelled.{no_mistake}
-use Rattle.krb_readers.specs.Ktfind.{EntrySought, entry_sought_of, spelled_version}
+use Rattle.krb_readers.specs.Ktfind.{EntrySought, entry_sought_of}
 use Rattle.krb_readers.proofs.Options.{put_err, two_words}
 use Rattle.krb_readers.proofs.ktfind.find_options.Goals as goal
 
