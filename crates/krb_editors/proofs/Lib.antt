@@ -5,3 +5,4 @@ pub mod Copies
 pub mod AddedPlaces
 mod Looking
 pub mod ForAnswers
+mod SpelledParts

@@ -5,6 +5,7 @@ use Rattle.krb_walk.specs.Events.{cut_store}
 use Rattle.krb_ccache.specs.Changes.{without}
 use Rattle.krb_ccache.specs.Rewrite.{rewrite_result}
 use Rattle.krb_ccache.specs.Store.{CacheState, PlacedCredential, image_of, placed_credentials}
+use Rattle.krb_names.specs.Asked.{AskedParts, asks_for_any}
 use Rattle.krb_audit.specs.Tickets.{selected_tickets, names_ticket, removed_ticket_line}
 use Rattle.krb_driver.specs.declared.error.RunError.TheVariants.{ClockNotRead}
 use Rattle.krb_driver.specs.declared.verdict.FileKind.TheVariants.{Cache}
@@ -14,15 +15,17 @@ use Rattle.krb_driver.specs.declared.error.RunError.{RunError}
 use Rattle.krb_driver.specs.declared.file_name.FileName.{FileName}
 use Rattle.krb_driver.specs.Commands.{Ends, CommandPlan, Effect, Displays, holds, opens, saves_unless, text}
 use Rattle.krb_driver.specs.Mistakes.{Matched, MistakeParts, nothing_selects}
-use Rattle.krb_driver.specs.Spelled.{◌>>=◌, ◌>>◌, each, printed_name}
+use Rattle.krb_driver.specs.Spelled.{◌>>=◌, ◌>>◌, spelled_asked}
 use Rattle.krb_driver.specs.Loading.{result_map, writable_in}
 use Rattle.krb_driver.specs.Several.{label_of}
+use Rattle.krb_editors.specs.Selecting.{names_given}
 
--- what ccremove is asked for: tickets for these servers, or of any if there are none, of services alone, that have ended, and whether they are only listed
+-- what ccremove is asked for: tickets for these servers, of services alone, that have ended; whether it is no failure if there are none, and whether they are only listed
 pub record TicketRemoval : Type 0 where
-  pub servers : List (List ℕ)
+  pub servers : AskedParts
   pub all_services : Bool
   pub expired : Bool
+  pub none_ok : Bool
   pub dry_run : Bool
 
 -- the second by which the selected tickets have ended: with `--expired` that of the clock, and otherwise none
@@ -33,10 +36,10 @@ ended_by o now = if o.expired then result_map (λ second. Some second) (ok_or no
 abbrev pub cache_after : CacheState → List ℕ → CacheState
 cache_after k places = cut_store (without k places) (rewrite_result (without k places))
 
--- the verdict of ccremove if no ticket of a file is selected: with `--expired` all is well if nothing else is asked for, or a ticket that is asked for has not ended; else `refused 9`, reported at the end of several files
+-- the verdict of ccremove if no ticket of a file is selected: all is well if that is no failure, and with `--expired` if nothing else is asked for, or a ticket that is asked for has not ended; else `refused 9`, reported at the end of several files
 abbrev pub none_verdict : Bool → TicketRemoval → Bool → Verdict
 none_verdict are_several o named =
-    if o.expired && (((length o.servers == 0) && not o.all_services) || named) then Well
+    if o.none_ok || (o.expired && ((asks_for_any o.servers && not o.all_services) || named)) then Well
     else (if are_several then Without else NothingToRemove Cache)
 
 -- what ccremove does with a cache: the tickets are removed, if there are any, and a line is printed for each
@@ -55,12 +58,12 @@ ccremove_plan o ended are_several file =
 -- nothing selects tickets
 abbrev pub odd_tickets : Matched → Option MistakeParts
 odd_tickets words =
-    if (length (words.values (codes "service")) == 0) && (not (words.flag (codes "all-services")) && not (words.flag (codes "expired")))
-    then Some (nothing_selects (codes "-p, --all-services or --expired")) else None
+    if names_given words (codes "service") || (words.flag (codes "all-services") || words.flag (codes "expired")) then None
+    else Some (nothing_selects (codes "-p, --match, --all-services or --expired"))
 
 -- what the words of ccremove ask for, or their first mistake
 abbrev pub ticket_removal_of : Matched → Result TicketRemoval MistakeParts
 ticket_removal_of words = do
   odd_tickets words
-  servers ← each printed_name (words.values (codes "service"))
-  Ok (record { servers = servers; all_services = words.flag (codes "all-services"); expired = words.flag (codes "expired"); dry_run = words.flag (codes "dry-run") })
+  servers ← spelled_asked words (codes "service")
+  Ok (record { servers = servers; all_services = words.flag (codes "all-services"); expired = words.flag (codes "expired"); none_ok = words.flag (codes "none-ok"); dry_run = words.flag (codes "dry-run") })

@@ -14,7 +14,7 @@ use Rattle.krb_driver.specs.Commands.{Ends, CommandPlan, Effect, Displays, Fails
 use Rattle.krb_driver.specs.Loading.{whole_in}
 use Rattle.krb_driver.specs.Mistakes.{Matched, MistakeParts, v1_order}
 use Rattle.krb_driver.specs.Spelled.{◌>>=◌}
-use Rattle.krb_editors.specs.Selecting.{asks_for_any, selection_of}
+use Rattle.krb_editors.specs.Selecting.{is_of_any, selection_of}
 
 -- what ktdiff is asked for: which entries, and the byte order of version 1 keytabs
 pub record Comparison : Type 0 where
@@ -28,7 +28,7 @@ verdict_of (b ∷ others) = Differ
 
 -- ktdiff was asked for some entries, and none is selected in A or in B
 abbrev pub finds_none : SelectionParts → List PlacedEntry → List PlacedEntry → Bool
-finds_none s xs ys = not (asks_for_any s) && ((length xs == 0) && (length ys == 0))
+finds_none s xs ys = not (is_of_any s) && ((length xs == 0) && (length ys == 0))
 
 -- ktdiff compares two keytabs by their selected entries
 abbrev pub differs : Comparison → List ℕ → KeytabState → KeytabState → Effect

@@ -4,22 +4,25 @@ ghost use Rattle.std.specs.Prelude.{◌≡◌, IfOk};
 ghost use Rattle.krb_ccache.specs.Store.{image_of};
 ghost use Rattle.krb_audit.specs.Tickets.{SelectsTickets, selected_tickets};
 ghost use Rattle.krb_driver.specs.Several.{label_of};
-ghost use Rattle.krb_editors.specs.Ccremove.{cache_after, ccremove_plan, ended_by, none_verdict, removes, ticket_removal_of};
+ghost use Rattle.krb_editors.specs.Ccremove.{cache_after, ccremove_plan, ended_by, none_verdict, odd_tickets, removes, ticket_removal_of};
 ghost use Rattle.krb_driver.specs.Commands.{IsMade};
 ghost use Rattle.krb_driver.specs.Composing.{text_effect};
 ghost use Rattle.krb_driver.specs.declared.verdict.FileKind.TheVariants.{Cache as OfCache};
 ghost use Rattle.krb_editors.specs.Removing.{RemovesWith};
+ghost use Rattle.krb_driver.specs.Mistakes.{Refuses};
 ghost use Rattle.krb_driver.specs.Spelled.{ReadsAs};
 
 use crate::removing::{FilesSeen, run_removals};
+use crate::selecting::{NONE_OK, names_given};
 use krb_audit::{SelectedTickets, TicketCriteria, select_tickets};
 use krb_ccache::Ccache;
 use krb_driver::{
     CacheUse, CommandName, CommandWords, DRY_RUN, FileError, FileKind, FileName, IN_PLACE, Made,
-    MakeResult, Matches, Output, OverFiles, Phrase, RunEnd, RunError, Verdict, Word, WordFault,
-    World, end_before, hold_if, label_of, open, spelled_names, times_given,
+    MakeResult, Matches, Mistake, OF_PATTERN, Output, OverFiles, Phrase, RunEnd, RunError, Verdict,
+    Word, WordFault, World, end_before, hold_if, label_of, open, spelled_asked,
 };
 use krb_files::Files;
+use krb_names::AskedNames;
 use krb_walk::Refusal;
 use krb_wire::NoMemory;
 use std::alloc::{Allocator, Global};
@@ -31,11 +34,12 @@ pub const CCREMOVE: CommandWords = CommandWords {
     command: CommandName::Ccremove,
     name: "ccremove",
     about: "Removes tickets from credential caches",
-    usage: "krbfile ccremove [--in-place] [-n] [-p SERVICE].. [--all-services] [--expired] FILE..",
+    usage: "\
+krbfile ccremove [--in-place] [-n] [-p SERVICE].. [--match PATTERN].. [--all-services] [--expired] [--none-ok] FILE..",
     after_help: Some(
         "\
 Statuses:
-  0  The tickets were removed; with --expired: also where there are none
+  0  The tickets were removed; with --expired or --none-ok: also where there are none
   1  No ticket is selected, or a file is missing, too large, damaged or no cache
   2  The command line is bad
   3  A file, the output or the clock failed
@@ -51,11 +55,13 @@ Example: remove the tickets that have ended
             "SERVICE",
             "Tickets for that service, with its realm; may be repeated",
         ),
+        OF_PATTERN,
         Word::LongFlag(
             "all-services",
             "Tickets for any service but the ticket-granting service",
         ),
         Word::LongFlag("expired", "Tickets that have ended"),
+        NONE_OK,
         IN_PLACE,
         Word::RequiredOperands("FILE", "The files to remove from"),
     ],
@@ -64,49 +70,56 @@ Example: remove the tickets that have ended
 /// Which tickets ccremove removes: those that meet every condition given.
 #[derive(Drop)]
 pub struct TicketOptions<A: Allocator> {
-    /// Only those for one of these servers, as they are printed, if there are any.
-    pub servers: Vec<Vec<u8, A>, A>,
+    /// Only those for one of these servers.
+    pub servers: AskedNames<A>,
     /// Only those for services, not for the ticket-granting service.
     pub all_services: bool,
     /// Only those that have ended.
     pub expired: bool,
+    /// It is no failure if there are none.
+    pub none_ok: bool,
     /// Print what would be removed, and save nothing.
     pub dry_run: bool,
 }
 
 impl<A: Allocator> Model for TicketOptions<A> {
-    ghost use Rattle.std.specs.Prelude.{map};
-    ghost use Rattle.std.specs.Vec.{vec_items};
     ghost use Rattle.krb_editors.specs.Ccremove.{TicketRemoval};
 
     ghost Value = { TicketRemoval };
 
     ghost view = { λ o. record {
-      servers = map vec_items o.servers.items;
+      servers = o.servers;
       all_services = o.all_services;
       expired = o.expired;
+      none_ok = o.none_ok;
       dry_run = o.dry_run;
     } };
 }
 
-/// Returns the options of ccremove. Refuses a line that selects nothing, and a bad name.
+// Refuses a line that selects nothing.
+fn refuse_unselected<'a, M: Matches<'a>>(matches: &M) -> Result<(), Mistake<'a>>
+    ensures { Refuses (odd_tickets (M.matched matches.now)) result }
+{
+    if names_given(matches, "service") | (matches.flag("all-services") | matches.flag("expired")) {
+        return Ok(());
+    }
+    Err(Phrase::NOTHING_SELECTS.of("-p, --match, --all-services or --expired"))
+}
+
+/// Returns the options of ccremove. Refuses a line that selects nothing, and a bad name or pattern.
 pub fn ticket_options<'a, M: Matches<'a>>(
     alloc: Global,
     matches: &M,
 ) -> Result<TicketOptions<Global>, WordFault<'a>>
     ensures { ReadsAs (ticket_removal_of (M.matched matches.now)) result }
 {
-    let all_services = matches.flag("all-services");
-    let expired = matches.flag("expired");
-    if times_given(matches, "service") == 0 && !all_services && !expired {
-        let options = "-p, --all-services or --expired";
-        return Err(WordFault::from(Phrase::NOTHING_SELECTS.of(options)));
-    }
-    let servers = spelled_names(alloc, matches, "service")?;
+    refuse_unselected(matches)?;
+    let servers = spelled_asked(alloc, matches, "service")?;
     Ok(TicketOptions {
         servers: servers?,
-        all_services,
-        expired,
+        all_services: matches.flag("all-services"),
+        expired: matches.flag("expired"),
+        none_ok: matches.flag("none-ok"),
         dry_run: matches.flag("dry-run"),
     })
 }
@@ -145,8 +158,8 @@ fn cut<A: Allocator + Copy>(mut cache: Ccache<A>, places: &[u32]) -> Result<Vec<
     }
 }
 
-// Returns the verdict if no ticket is selected: no failure with `--expired`, if nothing else is asked for or some ticket
-// is that.
+// Returns the verdict if no ticket is selected: no failure with `--none-ok`, and with `--expired` if nothing else is asked
+// for or some ticket is that.
 fn none_verdict<B: Allocator>(
     are_several: bool,
     options: &TicketOptions<B>,
@@ -154,8 +167,8 @@ fn none_verdict<B: Allocator>(
 ) -> Verdict
     ensures { result ≡ none_verdict are_several options.now is_named }
 {
-    let is_any = options.servers.is_empty() && !options.all_services;
-    if options.expired && (is_any || is_named) {
+    let is_any = options.servers.is_any() & !options.all_services;
+    if options.none_ok | (options.expired & (is_any | is_named)) {
         Verdict::Well
     } else if are_several {
         Verdict::Without

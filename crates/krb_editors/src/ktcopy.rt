@@ -5,23 +5,25 @@ mod copied;
 ghost use Rattle.std.specs.Prelude.{◌≡◌, Ok, option_map};
 ghost use Rattle.krb_wire.specs.Reading.{principal_parts};
 ghost use Rattle.krb_copy.specs.Copying.{asked_as, copy_run};
+ghost use Rattle.krb_copy.specs.Made.{new_in};
 ghost use Rattle.krb_audit.specs.Selection.{selected_in};
 ghost use Rattle.krb_driver.specs.Commands.{Makes, Runs, always, any, IsMade};
 ghost use Rattle.krb_driver.specs.Composing.{text_effect};
 ghost use Rattle.krb_driver.specs.Mistakes.{Refuses};
-ghost use Rattle.krb_driver.specs.Spelled.{ReadsAs};
-ghost use Rattle.krb_editors.specs.Ktcopy.{asks_for_some, copied_effect, copies_from, copies_to, copy_of, finds_none, ktcopy_plan, odd_new_name};
+ghost use Rattle.krb_driver.specs.Spelled.{ReadsAs, Spells};
+ghost use Rattle.krb_editors.specs.Ktcopy.{asks_for_some, copied_effect, copied_kvnos, copies_from, copies_to, copy_of, finds_none, ktcopy_plan, odd_new_kvno, odd_new_name, odd_options};
 
 use crate::ktcopy::copied::made;
 use crate::selecting::{
-    OF_ENCTYPE, OF_PRINCIPAL, spelled_kvno, spelled_new_name, spelled_selection,
+    OF_ENCTYPE, OF_PRINCIPAL, is_given, is_of_any, one_name_given, spelled_kvno, spelled_new_kvno,
+    spelled_new_name, spelled_selection,
 };
 use krb_audit::{SelectedKvno, Selection, selected_entries};
-use krb_copy::copy_into;
+use krb_copy::{CopyAs, copy_into};
 use krb_driver::{
     Command, CommandName, CommandWords, FileError, FileKind, FileName, IN_PLACE, KeytabUse, Made,
-    MakeResult, Matches, Mistake, Output, Phrase, RunError, V1_BIG, Word, WordFault, World,
-    hold_if, open, refuse_twice, run, times_given, v1_order,
+    MakeResult, Matches, Mistake, OF_PATTERN, Output, Phrase, RunError, V1_BIG, Word, WordFault,
+    World, hold_if, open, refuse_twice, run, v1_order,
 };
 use krb_files::Files;
 use krb_keytab::{EntryView, Keytab};
@@ -37,7 +39,7 @@ pub const KTCOPY: CommandWords = CommandWords {
     name: "ktcopy",
     about: "Copies entries from one keytab into another",
     usage: "\
-krbfile ktcopy [--v1-big] [--in-place] [-n] [--replace] [-p NAME].. [--as NAME] [-k KVNO|new] [-e ETYPE].. FROM TO",
+krbfile ktcopy [--v1-big] [--in-place] [-n] [--replace] [-p NAME].. [--match PATTERN].. [-k KVNO|new] [-e ETYPE].. [--as NAME] [--as-kvno N] FROM TO",
     after_help: Some(
         "\
 Statuses:
@@ -53,7 +55,7 @@ Example: bring new keys into the keytab in use
         Word::Flag("dry-run", 'n', "Show what would be copied; change nothing"),
         Word::LongFlag("replace", "Replace entries that have another key"),
         OF_PRINCIPAL,
-        Word::LongValued("as", "NAME", "Copy under that name; with one -p"),
+        OF_PATTERN,
         Word::Valued(
             "kvno",
             'k',
@@ -61,6 +63,8 @@ Example: bring new keys into the keytab in use
             "Entries of that version; new: those of the newest",
         ),
         OF_ENCTYPE,
+        Word::LongValued("as", "NAME", "Copy under that name; with one -p"),
+        Word::LongValued("as-kvno", "N", "Copy as that version; with one -p and -k"),
         V1_BIG,
         IN_PLACE,
         Word::Operand("FROM", "The file to copy from"),
@@ -74,6 +78,8 @@ pub struct CopyOptions<A: Allocator> {
     pub selection: Selection<A>,
     /// The name that what is copied gets, in place of its own.
     pub new_name: Option<Principal<A>>,
+    /// The version that it gets.
+    pub new_kvno: Option<u32>,
     /// Replace entries that have another key.
     pub replace: bool,
     /// Print what would be copied, and save nothing.
@@ -91,7 +97,7 @@ impl<A: Allocator> Model for CopyOptions<A> {
 
     ghost view = { λ o. record {
       selection = o.selection;
-      new_name = option_map principal_parts o.new_name;
+      new = record { name = option_map principal_parts o.new_name; kvno = o.new_kvno };
       replace = o.replace;
       dry_run = o.dry_run;
       v1_order = o.v1_order;
@@ -102,28 +108,59 @@ impl<A: Allocator> Model for CopyOptions<A> {
 fn refuse_odd_new_name<'a, M: Matches<'a>>(matches: &M) -> Result<(), Mistake<'a>>
     ensures { Refuses (odd_new_name (M.matched matches.now)) result }
 {
-    if times_given(matches, "as") > 0 && times_given(matches, "principal") != 1 {
+    if is_given(matches, "as") && !one_name_given(matches) {
         return Err(Phrase::ONLY_WITH_ONE.of_both("--as", "-p"));
     }
     Ok(())
 }
 
-/// Returns the options of ktcopy. Refuses `-k` or `--as` given twice, `--as` without just one `-p`, and a bad value.
+// Refuses `--as-kvno` without just one `-p` and `-k`.
+fn refuse_odd_new_kvno<'a, M: Matches<'a>>(matches: &M) -> Result<(), Mistake<'a>>
+    ensures { Refuses (odd_new_kvno (M.matched matches.now)) result }
+{
+    let is_one = one_name_given(matches) & is_given(matches, "kvno");
+    if is_given(matches, "as-kvno") && !is_one {
+        return Err(Phrase::ONLY_WITH_ONE.of_both("--as-kvno", "-p and -k"));
+    }
+    Ok(())
+}
+
+// Refuses options that are given twice, or without what they go with.
+fn refuse_odd_options<'a, M: Matches<'a>>(matches: &M) -> Result<(), Mistake<'a>>
+    ensures { Refuses (odd_options (M.matched matches.now)) result }
+{
+    refuse_twice(matches, "kvno", "-k", "--kvno")?;
+    refuse_twice(matches, "as", "--as", "--as")?;
+    refuse_twice(matches, "as-kvno", "--as-kvno", "--as-kvno")?;
+    refuse_odd_new_name(matches)?;
+    refuse_odd_new_kvno(matches)
+}
+
+// Returns the kvnos that `-k` selects, and the new one of the copies, if it is given.
+fn copied_kvnos<'a, M: Matches<'a>>(matches: &M) -> Result<(SelectedKvno, Option<u32>), Mistake<'a>>
+    ensures { Spells (copied_kvnos (M.matched matches.now)) result }
+{
+    let kvno = spelled_kvno(matches, "new", SelectedKvno::Newest)?;
+    let new_kvno = spelled_new_kvno(matches)?;
+    Ok((kvno, new_kvno))
+}
+
+/// Returns the options of ktcopy. Refuses `-k`, `--as` or `--as-kvno` given twice, `--as` and `--as-kvno` without what
+/// they go with, and a bad value.
 pub fn copy_options<'a, M: Matches<'a>>(
     alloc: Global,
     matches: &M,
 ) -> Result<CopyOptions<Global>, WordFault<'a>>
     ensures { ReadsAs (copy_of (M.matched matches.now)) result }
 {
-    refuse_twice(matches, "kvno", "-k", "--kvno")?;
-    refuse_twice(matches, "as", "--as", "--as")?;
-    refuse_odd_new_name(matches)?;
-    let kvno = spelled_kvno(matches, "new", SelectedKvno::Newest)?;
+    refuse_odd_options(matches)?;
+    let (kvno, new_kvno) = copied_kvnos(matches)?;
     let selection = spelled_selection(alloc, matches, kvno)?;
     let new_name = spelled_new_name(alloc, matches)?;
     Ok(CopyOptions {
         selection: selection?,
         new_name: new_name?,
+        new_kvno,
         replace: matches.flag("replace"),
         dry_run: matches.flag("dry-run"),
         v1_order: v1_order(matches),
@@ -138,12 +175,11 @@ struct CopyEntries<'f, B: Allocator> {
     to: FileName<'f>,
 }
 
-// Returns whether a name, a kvno or an enctype is given.
+// Returns whether some names, kvnos or enctypes are given.
 fn asks_for_some<B: Allocator>(selection: &Selection<B>) -> bool
     ensures { result ≡ asks_for_some selection.now }
 {
-    let is_any = selection.names.is_empty() && selection.enctypes.is_empty();
-    !is_any || selection.kvno != SelectedKvno::Any
+    !is_of_any(selection) || selection.kvno != SelectedKvno::Any
 }
 
 // Returns whether entries are asked for and there are none.
@@ -153,7 +189,17 @@ fn finds_none<B: Allocator>(selection: &Selection<B>, entries: &[(u32, EntryView
     entries.is_empty() && asks_for_some(selection)
 }
 
-// Copies the selected entries, which have their places in FROM, into the keytab TO, under the new name if there is one.
+// Returns what copies get in place of their own.
+fn new_of<B: Allocator>(options: &CopyOptions<B>) -> CopyAs<'_, B>
+    ensures { new_in result ≡ options.now.new }
+{
+    CopyAs {
+        name: options.new_name.as_ref(),
+        kvno: options.new_kvno,
+    }
+}
+
+// Copies the selected entries, which have their places in FROM, into the keytab TO, with the new name and version, if given.
 fn copy<'a, A: Allocator + Copy, B: Allocator>(
     alloc: A,
     command: &CopyEntries<'a, B>,
@@ -162,16 +208,11 @@ fn copy<'a, A: Allocator + Copy, B: Allocator>(
 ) -> Result<Made<A, Output<A>>, FileError<'a>>
     ensures { IsMade (copied_effect command.now.options.now command.now.to.name.now
         (copy_run command.now.options.now.replace
-        (asked_as command.now.options.now.new_name entries.now) to.state)) (text_effect command.now.to.name.now result) }
+        (asked_as command.now.options.now.new entries.now) to.state)) (text_effect command.now.to.name.now result) }
 {
     let options = command.options;
-    match copy_into(
-        alloc,
-        entries,
-        options.new_name.as_ref(),
-        to,
-        options.replace,
-    ) {
+    let new = new_of(options);
+    match copy_into(alloc, entries, &new, to, options.replace) {
         Ok(copied) => made(command, copied),
         Err(Refusal::Code(code)) => Err(FileError {
             file: command.to.name,

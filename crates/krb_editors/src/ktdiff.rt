@@ -6,12 +6,12 @@ ghost use Rattle.krb_driver.specs.Composing.{text_effect};
 ghost use Rattle.krb_driver.specs.Spelled.{ReadsAs};
 ghost use Rattle.krb_editors.specs.Ktdiff.{comparison_of, differs, diffs_from, finds_none, ktdiff_plan, verdict_of};
 
-use crate::selecting::{OF_ENCTYPE, OF_PRINCIPAL, spelled_selection};
+use crate::selecting::{OF_ENCTYPE, OF_PRINCIPAL, is_of_any, spelled_selection};
 use krb_audit::{SelectedKvno, Selection, selected_entries};
 use krb_copy::diff_text;
 use krb_driver::{
     Command, CommandName, CommandWords, FileError, FileName, KeytabUse, Made, MakeResult, Matches,
-    Output, RunError, V1_BIG, Verdict, Word, WordFault, World, open, run, v1_order,
+    OF_PATTERN, Output, RunError, V1_BIG, Verdict, Word, WordFault, World, open, run, v1_order,
 };
 use krb_files::Files;
 use krb_keytab::{EntryView, Keytab};
@@ -25,7 +25,7 @@ pub const KTDIFF: CommandWords = CommandWords {
     command: CommandName::Ktdiff,
     name: "ktdiff",
     about: "Shows which keys two keytabs do not share",
-    usage: "krbfile ktdiff [--v1-big] [-p NAME].. [-e ETYPE].. A B",
+    usage: "krbfile ktdiff [--v1-big] [-p NAME].. [--match PATTERN].. [-e ETYPE].. A B",
     after_help: Some(
         "\
 A line for each name, version and encryption type:
@@ -43,6 +43,7 @@ Example: whether a copy has the keys of the keytab in use
     ),
     words: &[
         OF_PRINCIPAL,
+        OF_PATTERN,
         OF_ENCTYPE,
         V1_BIG,
         Word::Operand("A", "The first file"),
@@ -110,8 +111,7 @@ fn finds_none<B: Allocator>(
 ) -> bool
     ensures { result ≡ finds_none selection.now ours.now others.now }
 {
-    let asks_for_any = selection.names.is_empty() && selection.enctypes.is_empty();
-    !asks_for_any && ours.is_empty() && others.is_empty()
+    !is_of_any(selection) && ours.is_empty() && others.is_empty()
 }
 
 // Compares the entries that are asked for.

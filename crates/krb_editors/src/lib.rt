@@ -21,4 +21,5 @@ pub use hold::words::{HOLD, HoldKind, hold_kind};
 pub use ktcopy::{CopyOptions, KTCOPY, copy_options, run_ktcopy};
 pub use ktdiff::{DiffOptions, KTDIFF, diff_options, run_ktdiff};
 pub use ktedit::{KTEDIT, run_ktedit};
-pub use ktremove::{KTREMOVE, RemoveOptions, remove_options, run_ktremove};
+pub use ktremove::run_ktremove;
+pub use ktremove::words::{KTREMOVE, RemoveOptions, remove_options};

@@ -1,20 +1,19 @@
-//! Which entries the words of a command select, and their new name.
+//! Which entries the words of a command select, and their new name and version.
 
-ghost use Rattle.std.specs.Prelude.{◌≡◌, IfOk, IsOkAnd, codes, map, option_map};
-ghost use Rattle.std.specs.Vec.{vec_items};
+ghost use Rattle.std.specs.Prelude.{◌≡◌, false, IfOk, IsOkAnd, codes, option_map};
 ghost use Rattle.krb_wire.specs.Reading.{principal_parts};
 ghost use Rattle.krb_driver.specs.Mistakes.{first_value};
 ghost use Rattle.krb_driver.specs.Spelled.{Spells, SpellsInMemory};
-ghost use Rattle.krb_editors.specs.Selecting.{selection_of, spelled_kvno, spelled_new_name};
+ghost use Rattle.krb_editors.specs.Selecting.{is_given, is_of_any, names_given, one_name_given, selection_of, spelled_kvno, spelled_new_kvno, spelled_new_name};
 
 use krb_audit::{SelectedKvno, Selection};
 use krb_driver::{
-    Matches, Mistake, Phrase, Spelled, Word, first_value, spelled_etypes, spelled_name,
-    spelled_names,
+    Matches, Mistake, Spelled, Word, first_value, spelled_asked, spelled_etypes, spelled_name,
+    spelled_version, times_given,
 };
-use krb_text::parse_u32;
+use krb_names::AskedNames;
 use krb_wire::{NoMemory, Principal};
-use std::alloc::Global;
+use std::alloc::{Allocator, Global};
 
 /// The option `-p`, `--principal`.
 pub const OF_PRINCIPAL: Word = Word::Valued(
@@ -29,8 +28,39 @@ pub const OF_ENCTYPE: Word = Word::Valued(
     "enctype",
     'e',
     "ETYPE",
-    "Entries of that encryption type, by name or number; may be repeated",
+    "Entries of that encryption type, by name or number; weak: of any weak one; may be repeated",
 );
+
+/// The flag `--none-ok`.
+pub const NONE_OK: Word = Word::LongFlag("none-ok", "It is no failure if nothing is selected");
+
+/// Returns whether an option is given.
+pub fn is_given<'a, M: Matches<'a>>(matches: &M, name: &str) -> bool
+    ensures { result ≡ is_given (M.matched matches.now) name.now }
+{
+    times_given(matches, name) > 0
+}
+
+/// Returns whether names are given, by that option or by patterns.
+pub fn names_given<'a, M: Matches<'a>>(matches: &M, option: &str) -> bool
+    ensures { result ≡ names_given (M.matched matches.now) option.now }
+{
+    is_given(matches, option) | is_given(matches, "match")
+}
+
+/// Returns whether just one name is given, and no pattern.
+pub fn one_name_given<'a, M: Matches<'a>>(matches: &M) -> bool
+    ensures { result ≡ one_name_given (M.matched matches.now) }
+{
+    times_given(matches, "principal") == 1 && times_given(matches, "match") == 0
+}
+
+/// Returns whether a selection is of any name and any encryption type.
+pub fn is_of_any<A: Allocator>(selection: &Selection<A>) -> bool
+    ensures { result ≡ is_of_any selection.now }
+{
+    selection.names.is_any() && selection.enctypes.is_empty()
+}
 
 /// Returns the kvnos that the value of `-k` selects, or `Any` without one. The word `name` selects `named`.
 pub fn spelled_kvno<'a, M: Matches<'a>>(
@@ -43,31 +73,30 @@ pub fn spelled_kvno<'a, M: Matches<'a>>(
     match first_value(matches, "kvno") {
         None => Ok(SelectedKvno::Any),
         Some(word) if word == name => Ok(named),
-        Some(word) => match parse_u32(word.as_bytes()) {
-            Some(kvno) => Ok(SelectedKvno::Exactly(kvno)),
-            None => Err(Phrase::NO_VERSION.of(word)),
-        },
+        Some(word) => Ok(SelectedKvno::Exactly(spelled_version(word)?)),
     }
 }
 
 // Returns the selection by kvno, name and enctype, unless memory ran out on the way.
 fn selection_of(
     kvno: SelectedKvno,
-    names: Result<Vec<Vec<u8>>, NoMemory>,
+    names: Result<AskedNames<Global>, NoMemory>,
     enctypes: Result<Vec<u16>, NoMemory>,
 ) -> Result<Selection<Global>, NoMemory>
-    ensures names { IfOk result (λ selection. IsOkAnd names (λ names. map vec_items names.items ≡ selection.names)) }
+    ensures names { IfOk result (λ selection. IsOkAnd names (λ names. names ≡ selection.names)) }
     ensures enctypes { IfOk result (λ selection. IsOkAnd enctypes (λ enctypes. enctypes.items ≡ selection.enctypes)) }
     ensures kvno { IfOk result (λ selection. selection.kvno ≡ kvno) }
+    ensures same { IfOk result (λ selection. selection.only_same ≡ false) }
 {
     Ok(Selection {
         names: names?,
         kvno,
         enctypes: enctypes?,
+        only_same: false,
     })
 }
 
-/// Returns the selection of these kvnos, and of the enctypes and names that `-e` and `-p` spell.
+/// Returns the selection of these kvnos, and of the enctypes and names that `-e`, `-p` and `--match` spell.
 pub fn spelled_selection<'a, M: Matches<'a>>(
     alloc: Global,
     matches: &M,
@@ -76,7 +105,7 @@ pub fn spelled_selection<'a, M: Matches<'a>>(
     ensures { SpellsInMemory (λ selection. selection) (selection_of kvno (M.matched matches.now)) result }
 {
     let enctypes = spelled_etypes(alloc, matches, "enctype")?;
-    let names = spelled_names(alloc, matches, "principal")?;
+    let names = spelled_asked(alloc, matches, "principal")?;
     Ok(selection_of(kvno, names, enctypes))
 }
 
@@ -94,5 +123,15 @@ pub fn spelled_new_name<'a, M: Matches<'a>>(
     match spelled_name(alloc, word)? {
         Ok(name) => Ok(Ok(Some(name))),
         Err(NoMemory) => Ok(Err(NoMemory)),
+    }
+}
+
+/// Returns the new version of what is copied, if one is given.
+pub fn spelled_new_kvno<'a, M: Matches<'a>>(matches: &M) -> Result<Option<u32>, Mistake<'a>>
+    ensures { Spells (spelled_new_kvno (first_value (M.matched matches.now) (codes "as-kvno"))) result }
+{
+    match first_value(matches, "as-kvno") {
+        None => Ok(None),
+        Some(word) => Ok(Some(spelled_version(word)?)),
     }
 }
