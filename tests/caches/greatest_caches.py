@@ -4,7 +4,7 @@ there is room."""
 from dataclasses import replace
 
 from keytabs.file_names import LIMIT
-from keytabs.greatest import LEAST_RECORD, at_each, repeated, with_room
+from keytabs.greatest import LEAST_RECORD, STARRED, at_each, matching, repeated, with_room
 from makers.images import TICKET, U, Credential, Entry, Name, cache, config, keytab, number, ticket_of
 from runs.harness import Case, message, over
 from words.phrases import MATCHES
@@ -78,6 +78,14 @@ def matches() -> list[Case]:
             ("names", "--explain ", 1, names, long, (17, 3), 25_000)))
     words = f"krbfile: name: {MATCHES['name']}\n".encode()
     return [*others, replace(explained, wanted=replace(explained.wanted, err=words))]
+
+
+def selections() -> list[Case]:
+    """Returns removals by patterns of a ticket of a long name, which none or one fits."""
+    long = [Name((b"a" * (8_000_000 - 1) + end,), b"") for end in (b"a", b"b")]
+    removed = "removed 22 " + long[1].components[0].decode() + "@"
+    return [over("stars", f"ccremove -n {matching(STARRED)} c", cache(replace(LEAST, server=server)), wanted)
+            for server, wanted in zip(long, (message(1, "c: refused 9"), [removed]))]
 
 
 def edits() -> list[Case]:

@@ -6,8 +6,8 @@ Places are counted by hand: a ticket has 108 bytes or 106, pa_type's value 136.
 from dataclasses import replace
 
 from caches.cache_listings import of_host
-from makers.images import (FIELDS, OFFSET, PA_TYPE, TICKET, Credential, Name, cache, encrypted, own_server,
-                           ticket)
+from makers.images import (FIELDS, OFFSET, PA_TYPE, TICKET, VERSION_3, Credential, Name, cache, encrypted,
+                           own_server, ticket)
 from runs.harness import Case, Outcome, message, over
 
 FUTURE = 2**32 - 1  # a time that does not come during a test
@@ -73,5 +73,20 @@ CASES = [
       for words, wanted, left in (
           ("-p host/b@S", NAMED, []), ("-p host/b@", NAMED[:1], NAMING[1:]), ("-p krbtgt/R@R", NAMED[1:2], NAMING[::2]),
           ("-p host/b@S --all-services", NAMED[::2], NAMING[1:2]), ("--all-services", NAMED[:1], NAMING[1:]))),
+    # Patterns ask by both names, but for gssproxy's only if their realm has no star.
+    *(over(f"by {words}", f"ccremove {words} c", cache(*NAMING), wanted, cache(*left)) for words, wanted, left in (
+        ("--match */b@S", NAMED, []), ("--match */b@*", NAMED[:2], NAMING[2:]),
+        ("--match */b@* --all-services", NAMED[:1], NAMING[1:]))),
+    *(over(f"gssproxy's by {words}", f"ccremove {words} c", cache(KEPT, of_host()), [f"removed {it}" for it in gone],
+           cache(*left)) for words, gone, left in (
+        ("--match */*/*@X-GSSPROXY:", ("22 Encrypted/Credentials/v1@X-GSSPROXY:",), [of_host()]),
+        ("--match */*@* --match */*/*@*", ("143 host/a@R",), [KEPT]),
+        ("--none-ok --match */*/*@X-*", (), [KEPT, of_host()]))),
+    over("gssproxy's by a star", "ccremove --match */*/*@X-GSSPROXY* c", cache(KEPT), message(1, "c: refused 9")),
+    remove("--expired --match host/*@R --match *@R", [AT_392], TICKET, PA_TYPE, LATER, LATER_HOST),
+    *(over(f"none has expired, {words}", f"ccremove --expired {words} c", cache(LATER_HOST), wanted)
+      for words, wanted in (("--match host/*@R", []), ("--match b@*", message(1, "c: refused 9")),
+                            ("--none-ok --match b@*", []))),
+    over("version 3", "ccremove --none-ok --match b@* c", VERSION_3, message(1, "c: refused 8")),
     over("no service has expired", "ccremove --all-services --expired c", cache(TICKET, LATER_HOST), []),
 ]

@@ -24,6 +24,7 @@ REMOVED = Choices(names=(*[(b"a", b"R")] * 6, (b"a", b"b", b"R"), (b"a/b", b"R")
 FEW = Choices(names=((b"a", b"R"), (b"", b"R"), (b"R",)), versions=(1, 1, 1, 257), enctypes=(17, 17, 18),
               timestamps=(0, 1, 2), keys=(b"x", b"x", b"y", b"yy"))
 AGES = (0, 1, 1_000, NOW, 2**32 - 1)
+PATTERNS = [b"*@R", b"@R", b"a*@*", b"*a/b@R", b"*/*@R", rb"\a*\/b@*R", b"*st/a@*", b"E*@X-*", b"*d@X-GSSPROXY:"]
 
 # The lines of scripts and of ktutil, by how frequent they are.
 LINES = {"start": 3, "resume": 3, "step": 12, "add": 6, "cut": 5, "rewrite": 1, "#": 1, "": 1}
@@ -156,7 +157,7 @@ def ktutil_input(random: Random) -> Iterator[Undisturbed]:
 def selectors(random: Random, names: list[bytes], chance: float) -> list[str | bytes]:
     """Returns selectors of entries, each with that chance."""
     found: list[str | bytes] = []
-    for letter, choices in (("-p", names), ("-e", ["0", "17", "18", "23"])):
+    for letter, choices in (("-p", names), ("-e", ["0", "17", "18", "23", "weak"]), ("--match", PATTERNS)):
         for each in random.choices(choices, k=random.choice([1, 1, 2]) if random.random() < chance else 0):
             found += [letter, each]
     return found
@@ -165,12 +166,13 @@ def selectors(random: Random, names: list[bytes], chance: float) -> list[str | b
 def removal(random: Random) -> Iterator[Undisturbed]:
     """Yields removals from a keytab of a few parts."""
     image, is_big = REMOVED.random_keytab(random)
-    words = selectors(random, [name_text(name) for name in REMOVED.names], 0.4)
+    words = selectors(random, [name_text(name) for name in REMOVED.names], 0.3)
     if not words or random.random() < 0.5:
-        words += ["-k", random.choice(["old", "old", str(random.choice(REMOVED.versions))])]
-    if "old" in words and random.random() < 0.5:
+        words += random.choice([["-k", "old"], ["-k", str(random.choice(REMOVED.versions))], ["--same"],
+                                ["--keep", random.choice("1223")], ["--keep", "2", "--same"]])
+    if {"old", "--keep"} & {*words} and random.random() < 0.5:
         words += ["--age", str(random.choice(AGES))]
-    words += options(random, "-n") + ("--v1-big",) * is_big
+    words += options(random, "-n", "--none-ok") + ("--v1-big",) * is_big
     names = random.choice(SEVERAL)
     yield from in_turn(lambda it: undisturbed(("ktremove", *words, *names), clock=NOW, k=it, j=TWO), image, "k")
 
@@ -180,8 +182,9 @@ def ticket_removal(random: Random) -> Iterator[Undisturbed]:
     image = with_damage(random, filled_cache(random, random.choice([3, *[4] * 9]), [random_ticket] * 3, 6), 0.1)
     words = [word for server in random.choices(SERVERS, k=random.choice([0, 1, 1, 2]))
              for word in ("-p", name_text((*server.components, server.realm)))]
+    words += [f"--match={each.decode()}" for each in random.choices(PATTERNS, k=random.choice([0, 0, 1, 2]))]
     words += ["--all-services"] * (random.random() < 0.4)
-    words += [*["--expired"] * (not words or random.random() < 0.3), *options(random, "-n")]
+    words += [*["--expired"] * (not words or random.random() < 0.3), *options(random, "-n", "--none-ok")]
     names = random.choice(CACHE_NAMES)
     yield from in_turn(lambda it: undisturbed(("ccremove", *words, *names), clock=NOW, c=it), image, "c")
 
@@ -207,9 +210,10 @@ def copy(random: Random) -> Iterator[Undisturbed]:
     words = [*options(random, "--replace", "-n"), *asked]
     if random.random() < 0.2:
         words += ["-k", random.choice(["new", "new", "1", "257"])]
-    if words.count("-p") == 1 or "-p" not in words and random.random() < 0.15:
+    if "--match" not in words and (words.count("-p") == 1 or "-p" not in words and random.random() < 0.15):
         old, new = (name_text(random.choice(FEW.names)) for _ in range(2))
-        words += [*("-p", old) * ("-p" not in words), "--as", new]
+        words += [*("-p", old) * ("-p" not in words), *random.choice([("--as", new), ()])]
+        words += ["--as-kvno", random.choice(["0", "1", "257", "300"])] * ("-k" in words)
     runs = [*in_turn(lambda it: undisturbed(("ktcopy", *words, "k", "t"), k=source, t=it), target, "t")]
     yield from runs
     left = runs[-1].files_after.get("t")

@@ -140,6 +140,7 @@ def match(random: Random) -> Iterator[Undisturbed]:
     files = {name: with_damage(random, cache(*(matched_ticket(random) for _ in range(random.randrange(7)))), 0.1)
              for name in "cd"}
     asked = [b"-p" + name_text(name) for name in random.choices(MATCHED.names, k=random.choice((0, 0, 1, 2)))]
+    asked += [b"--match=" + it for it in random.choices((b"*@*", b"a@*", b"*/R@R", b"@R"), k=random.choice((0, 0, 1)))]
     words = (*options(random, "-q", "-H"), *("--v1-big",) * is_big, *asked, "k",
              *random.choices([*"ccccddkn", "DIR::d"], k=random.choice((1, 1, 2, 3))))
     for json in ((), ("--json",)):

@@ -79,6 +79,7 @@ CASES = [
 ]
 
 C = Entry((b"c",), key=B.key, name_type=5)  # an entry of another name, with another name type
+NINE, RC4 = replace(B, version8=9, version32=9), replace(B, enctype=23)  # of another version and of a weak type
 
 
 def diff(options: str, ours: bytes | None, others: bytes | None, *lines: str, err: str = "") -> Case:
@@ -105,6 +106,24 @@ CASES += [
     copy("no entry of the old name", "-p c@R --as b@R", TWO, None, NOT_FOUND),
     copy("another key of the new name", "-p b@R --as c@R", TWO, keytab(B, replace(C, key=b"")),
          printed("clash 53 47 kvno 3 etype 17 c@R", status=1)),
+    # Under another version, likewise.
+    *(copy("another version", f"-p b@R -k 3 --as-kvno 9{more}", keytab(B, 9), target, wanted, *after)
+      for more, target, wanted, *after in (
+          ("", None, ["copied 2 kvno 9 etype 17 b@R"], keytab(NINE)), ("", keytab(NINE), []),
+          ("", keytab(OTHER), ["copied 47 kvno 9 etype 17 b@R"], keytab(OTHER, NINE)),
+          ("", keytab(replace(NINE, key=b"")), printed("clash 2 2 kvno 9 etype 17 b@R", status=1)),
+          (" --replace", keytab(replace(NINE, key=bytes(16))),
+           ["removed 2 kvno 9 etype 17 b@R", "copied 2 kvno 9 etype 17 b@R"], keytab(NINE)),
+          (" --as c@R", None, ["copied 2 kvno 9 etype 17 c@R"], keytab(replace(NINE, components=(b"c",)))))),
+    *(copy("a version of any size", f"-p host/a@R -k new --as-kvno {kvno}", FOUR, None,
+           [f"copied {line_of(those[0])}", f"copied {line_of(those[1], those[0])}"], keytab(*those))
+      for kvno, those in ((it, [replace(each, version8=it % 256, version32=it) for each in (AES256, FIVE)])
+                          for it in (0, 255, 300, 2**32 - 1))),
+    copy("no entry of the old version", "-p b@R -k 9 --as-kvno 3", TWO, None, NOT_FOUND),
+    # Weak types.
+    copy("weak types", "-e weak -e 18", keytab(B, RC4, HOST), None, ["copied 2 kvno 3 etype 23 b@R"], keytab(RC4)),
+    diff("-e Weak", keytab(B, RC4), keytab(replace(RC4, enctype=3), HOST), "- 47 kvno 3 etype 23 b@R",
+         "+ 2 kvno 3 etype 3 b@R"),
     # Which keys two keytabs do not share: not by order, times, name types and doubles.
     diff("", TWO, keytab(OTHER), f"- 2 {X}", f"! 53 2 {Y}"), diff("", keytab(OTHER), TWO, f"! 2 53 {Y}", f"+ 2 {X}"),
     diff("", keytab(OTHER, B), keytab(9, B), f"! 2 15 {Y}"), diff("", keytab(9, B), keytab(B, OTHER), f"! 15 2 {Y}"),

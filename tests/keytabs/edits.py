@@ -33,7 +33,7 @@ LINE_FAULTS = by_line({
 FAULTS = LINE_FAULTS | by_line({
     2: ["add", f"add 3 17 0 {B_KEY}"],
     3: [f"add x 17 0 {B_KEY} b@R", f"add  17 0 {B_KEY} b@R", f"add 3 17 4294967296 {B_KEY} b@R"],
-    4: [f"add 3 {etype} 0 {B_KEY} b@R" for etype in ("65536", "aes")],
+    4: [f"add 3 {etype} 0 {B_KEY} b@R" for etype in ("65536", "aes", "weak")],
     5: ["add 3 17 0 00 b@R", "add 3 17 0 - b@R", "add 3 1 0 0 b@R", "add 3 1 0 0x b@R", "add 3 1 0 -- b@R"],
     6: [f"add 3 17 0 {B_KEY} {name}" for name in ("", "b", "b@R@R", "b@R/a", "b@R\\")],
 }) | {

@@ -1,11 +1,12 @@
 """Files, scripts and inputs of 16,777,216 bytes, made of small parts and of large ones, and runs over them as they end
 where there is room."""
 
+from collections.abc import Iterable
 from dataclasses import replace
 
 from keytabs.file_names import LIMIT, sized
 from makers.images import HOST, Entry, hole, keytab, number, record
-from runs.harness import Case, Outcome, over, words_of
+from runs.harness import Case, Outcome, message, over, words_of
 from runs.undisturbed import frame, run_alone
 
 LEAST = Entry((b"",), b"", 1, 0, 0, 0, b"", 0)  # the smallest with a component: 23 bytes with its 32-bit version
@@ -70,6 +71,35 @@ def many_long_names() -> Case:
     """Returns a removal from many names with a long prefix, none of them old. This too takes more memory."""
     return over("as many names with a long prefix", "ktremove -k old k", keytab(
         *(Entry((b"x" * 200, b"%05d" % number), version32=None) for number in range(60_000))), [])
+
+
+# Components of patterns: of many stars, and of parts that are almost there at each byte of many.
+STARRED = ("*a" * 30_000 + "*b", "a*" * 30_000 + "b", "*" * 60_000 + "b", f"*{'a' * 30_000}b*{'a' * 30_000}*",
+           f"*{'a' * 60_000}b*", f"*b{'a' * 60_000}*", "*ab" * 20_000, f"{'a' * 40_000}*b*")
+
+
+def matching(parts: Iterable[str]) -> str:
+    """Returns words that ask for names of one component, or of more that are joined."""
+    return " ".join(f"--match {part}@*" for part in parts)
+
+
+def selections() -> list[Case]:
+    """Returns removals by patterns, which only the last name fits, of versions and of doubles."""
+    found = "removed {} kvno {} etype {} {}".format
+    long, many = keytab(record(Entry((b"a" * 65_500,), b"").spelled()) * 254), keytab(record(
+        Entry((b"",) * 65_000, b"").spelled()) * 125)
+    kvnos = b"".join(record(replace(LEAST, version32=1_000 + at).spelled()) for at in range(256)) * (COUNT // 1024)
+    front, back = record(replace(LEAST, key=b"mark").spelled()).split(b"mark")
+    return [over(name, f"ktremove -n {words} k", image, wanted) for name, words, image, wanted in (
+        *((name, matching(patterns), image + record(Entry(last, b"").spelled()), [
+            found(len(image), 3, 17, b"/".join(last).decode() + "@")]) for name, patterns, image, last in (
+                ("stars", STARRED, long, (b"a" * 65_499 + b"b",)),
+                ("components", ["*/" * 64_999 + end for end in "bc"], many, (b"",) * 64_999 + (b"b",)))),
+        ("stars, short names", matching(STARRED),
+         keytab(record(replace(LEAST, components=(b"a",)).spelled()) * 550_000), message(1, "k: refused 9")),
+        ("versions", "--keep 255", keytab(kvnos), [found(it, 1_000, 0, "@") for it in PLACES[:COUNT // 1024 * 256:256]]),
+        ("doubles", "--same", least(), [found(place, 0, 0, "@") for place in PLACES[1:]]),
+        ("no doubles", "--same", keytab(*(front + number(at, 4) + back for at in range(500_000))), []))]
 
 
 def lines() -> Case:

@@ -44,7 +44,7 @@ FAULTS = by_line({
             "-Password -p b@R -k 3 -e 17", "-p b@R -k 3 -e 17", "-key -p b@R -k 3", "-key -p b@R -k 3 -e",
             "-key -key -p b@R -k 3 -e 17", "-key -p b@R -k 3 -k 3 -e 17", "-key -p b c@R -k 3 -e 17"))],
     3: ["addent -key -p b@R -k x -e 17", "addent -key -p b -k 4294967296 -e x", "delent x", "delent 00000000001"],
-    4: ["addent -key -p b -k 3 -e x", "addent -key -p b@R -k 3 -e 65536"],
+    4: [f"addent -key -p {words}" for words in ("b -k 3 -e x", "b@R -k 3 -e 65536", "b@R -k 3 -e weak")],
     6: ["addent -key -p b -k 3 -e 17", "addent -key -k 3 -e 17 -p b@R\\"],
     7: ["delent 0", "delent 3", "delent 4294967295"],
 }) | PASSWORDS

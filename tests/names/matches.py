@@ -115,6 +115,8 @@ SEEN = [
     match("-p krbtgt/R@R -p b@R", TWO, (TGT, NO_TGT), (OTHER_TGT, ""), (OWN_TGT, NO_TGT), (ticket_of(A), ""),
           (ticket_of(A, server=KRBTGT), OPENS), (ticket_of(name_of("b@R")), said("opens", 3, 17, "at 53", "b@R"))),
     match(r"--principal=\host/a@R -p Encrypted@X-GSSPROXY:", TWO, *NEVER, (OWN_TGT, NO_TGT), (ticket_of(C), "")),
+    match("--match krbtgt/*@R -p b@R", TWO, (TGT, NO_TGT), (OTHER_TGT, ""), (OWN_TGT, NO_TGT), (ticket_of(A), "")),
+    match("--match *@* --match */a@R", TWO, *NEVER, (ticket_of(A), OPENS), (TGT, "")),
     match("-p @R", TWO, *((ticket_of(Name(those)), said("name", 3, 17, name="@R")) for those in ((), (b"",)))),
     *(match("-q", TWO, (ticket_of(A), ""), (ticket_of(A, is_skey=1), ""), *more) for more in (
         [(ticket_of(C), NO_C)], [])),

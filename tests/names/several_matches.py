@@ -70,6 +70,7 @@ THEOREMS = [
     match("k m", M, *ALL), match("-q k m", M[1:-1], *ALL[1:]), match("k d", D, *words("name"), *fault("d", 171)),
     # No ticket is looked at, of one cache and of all that can be.
     match("k e", [], none("e")), match("-p c@R k o", [], none("o", NOT_ASKED)),
+    match("--match c@* k o", [], none("o", NOT_ASKED)),
     match("k n", N, *fault("n", 22), none("n")), match("k e e", [], none()),
     match("-p c@R k no o", [], MISSING, none(command=NOT_ASKED)), match("k no x", [], MISSING, NO_CACHE),
     match("k e n x", labelled(n=N), *fault("n", 22), NO_CACHE, none()),

@@ -74,6 +74,13 @@ CASES = [
     # That nothing is old, or has expired, is no failure.
     remove("ktremove -k old o k", [X_O], left="o"), remove("ktremove -k old -p host/a@R k j", []),
     remove("ktremove -k old d k", [], DAMAGED, status=1), remove("ccremove --expired t c h", [TGT_C], left="c"),
+    remove("ktremove --keep 1 o k", [X_O], left="o"), remove("ktremove --same --match b@* k o", []),
+    remove("ktremove --same --match *@S k o", [], NO_ENTRY, status=1),
+    # Nor is it with --none-ok that nothing is asked for anywhere.
+    *(remove(f"{command} --none-ok -p c@R {files}", [], *lines, status=len(lines)) for command, files, *lines in (
+        ("ktremove", "k j"), ("ktremove -n", "k d", DAMAGED), ("ktremove", "k no", MISSING), ("ccremove", "t c"),
+        ("ccremove", "c v", OLD_CACHE))),
+    remove("ktremove --none-ok --match b@* o j k", [B_J, B_K], left="kj"),
     # A save that fails leaves the others as they are alone, and something was asked for.
     remove("ktremove -p b@R k j", [B_J], UNSAVED, status=3, left="j", setting=in_the_way),
     remove("ktremove -p host/a@R k j", [], UNSAVED, status=3, setting=in_the_way),

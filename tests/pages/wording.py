@@ -16,6 +16,21 @@ from words.mistakes import MISTAKES, NEAR
 PAGES = ("docs/krbfile.1", "docs/krbfile.5", "docs/krbfile.3")
 
 
+def usage_of(block: str) -> str:
+    """Returns the usage line that a part of the synopsis spells, without blanks."""
+    kind, found = "", ""
+    for line in block.splitlines():
+        for word in re.sub(r"\bAr$", "Ar file ...", line[1:]).split():
+            if word in ("Fl", "Ar", "Cm", "No"):
+                kind = word
+            elif kind == "Fl" and word not in ("Oo", "Oc", "Op", "|"):
+                found += f"-{word}" if word[0] == "-" else "][".join(f"-{each}" for each in word)
+            else:
+                found += {"Oo": "[", "Op": "[", "Oc": "]"}.get(word, word.upper() if kind == "Ar" else word)
+        found += "]" * line.count("Op ")
+    return found.replace("...", "..").replace("..]", "]..")
+
+
 def of_manual(program: str) -> Iterator[tuple[str, set[object]]]:
     """Yields what the manual page has no list for, its commands and options, each with what it lacks."""
     page, synopsis = phrases.PAGE, phrases.part(phrases.PAGE, "\n.Sh SYNOPSIS\n", "\n.Sh ")
@@ -23,6 +38,10 @@ def of_manual(program: str) -> Iterator[tuple[str, set[object]]]:
               phrases.COLLECTION}
     yield "other phrases", others.difference(re.split(";?\n", page))
     yield "commands", {*re.findall(r"^\.Cm (\w+)$", synopsis, re.MULTILINE)} ^ {*COMMANDS}
+    usages = [line for each in COMMANDS for line in re.split(r"\s+krbfile ", re.search(
+        r"krbfile (.*?)\n\n", helped(program, each), re.DOTALL)[1])]
+    yield "usage lines", {usage_of(each) for each in f"\n{synopsis}".split("\n.Nm\n") if each.startswith(".Cm")} ^ {
+        "".join(each.split()).replace("..]", "]..") for each in usages}
     found = {*re.findall(r"^\.It Ic (\w+).*\n(.*):$", phrases.part(page, "\n.Sh KTCHECK\n", "\n.Sh "), re.MULTILINE)}
     shown = re.findall(r"^  ([a-z]+) +(.*)$", helped(program, "ktcheck").partition("\nStatuses:")[0], re.MULTILINE)
     yield "findings", found ^ {*phrases.FINDINGS.items()} | found ^ {*shown}

@@ -23,10 +23,9 @@ makes. `≡` is equality, `×` and, `⊎` or, `(x : T) ×` there is an x; `ℕ` 
 of a pair; `None`, `Some x` nothing or x; `Ok x`, `Err e` x or why not; `x ← e` takes x out of `Some
 x`, and else all is `None`. `.old`, `.new`: a variable before and after; `.now`, `.entry`: what it
 holds. A plan `holds` a file, `opens` it and goes on with what that gave, then `Ends` with what it
-prints (`Displays`), saves and prints (`Saves`) or reports (`Fails`). A definition is before those
-that it names; a name after `cells.` is krb_cells' own. In brackets: where it is from. `e.g.`: a
-value, or a run of the tests and a line that it prints by the definition. What is not opened, as
-`ending_words`, is for --explain alone, whose words krbfile(1) describes.
+prints (`Displays`), saves and prints (`Saves`) or reports (`Fails`). What a definition names is
+below it; `cells.x` is krb_cells' x. In brackets: where it is from. `e.g.`: a value, or a run of the
+tests and a line that it prints by the definition. Words of --explain alone are not opened.
 """
 
 

@@ -244,6 +244,9 @@ def small_edits(image: bytes, tickets: bytes, rotated: bytes) -> list[Undisturbe
         at_now("ktremove -k old --age 0 k", name="of versions old for long", k=rotated),
         *(at_now(f"ktremove {options} k", name=name, k=image)
           for options, name in (("-p xxx/3@R -e 17 -e 23", "of a name"), ("-k 4000", "of nothing"))),
+        at_now("ktremove --keep 1 --age 0 --match xx*/*@R k", name="but one version", k=rotated),
+        at_now("ktremove --same k", name="of doubles", k=keytab(HOST, B, HOST)),
+        at_now("ktcopy -p x/1@R -k new --as-kvno 300 k t", name="of another version", k=rotated),
         at_now("ktremove -e 17 k r", name="of two keytabs", k=image, r=rotated),
         at_now("ccremove -p krbtgt/R@R c d", name="of two caches", c=USUAL, d=VALID),
         at_now("ktdiff k t", name="of other keys", k=many, t=others), at_now("klist -k k no r k", k=image, r=rotated),

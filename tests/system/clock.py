@@ -31,13 +31,13 @@ EXPLAINED = Outcome(3, err=NO_CLOCK.err + f"krbfile: {CLOCK}\n".encode())
 # Lines, and how they end then: before the file is read, and only if the clock is needed. `klist -s` says nothing.
 AGE, EXPIRED, OLDER = "ktremove -k old --age 0", "ccremove --expired", "ktcheck --older 0"
 ENDED = (
-    (NO_CLOCK, (f"{AGE} k", f"{AGE} -n k", f"{AGE} no k", f"{AGE} KCM:k", f"{EXPIRED} c", f"{EXPIRED} -n c",
-                f"{EXPIRED} no c", f"{EXPIRED} KCM:c", f"{EXPIRED} -p krbtgt/R@R c", "klist -l --json no c",
+    (NO_CLOCK, (f"{AGE} k", "ktremove --keep 9 --age 0 k", f"{AGE} -n k", f"{AGE} no k", f"{AGE} KCM:k",
+                f"{EXPIRED} c", f"{EXPIRED} -n c", f"{EXPIRED} no c", f"{EXPIRED} KCM:c", f"{EXPIRED} -p krbtgt/R@R c", "klist -l --json no c",
                 f"{OLDER} k", f"{OLDER} -q --json no KCM:k", OLDER, "show no k c", "show -k")),
     (EXPLAINED, (f"--explain {AGE} k", f"--explain {EXPIRED} c", f"--explain {OLDER} k", "--explain show k")),
     (with_mode("old 2 kvno 3 etype 17 host/a@R", "entries 4 free 0 holes 0", is_wrong=False), ("ktcheck k",)),
     (replace(NO_CLOCK, out=HEADING), ("klist -l no c", "klist -l")),
-    (Outcome(0, text([X])), ("ktremove -n -k old k",)),
+    (Outcome(0, text([X])), ("ktremove -n -k old k", "ktremove -n --keep 1 k")),
     (BAD_LINE, (f"{AGE} --age 0 k", "klist -s c c", f"{OLDER} --older 0 k")),
     (Outcome(3), ("klist -s c", "klist -s --for 0 c", "klist -s no", "klist -s k", "klist -s KCM:c", "klist -s",
                   "--explain klist -s c")),

@@ -1,4 +1,4 @@
-"""The greatest files and inputs, on a small stack, and in little memory.
+"""The greatest files and inputs, on a small stack, and in little memory; selections in little time.
 
 On a small stack each run ends as usual. In little memory it does too, or reports that it is out of memory: then a
 prefix of its text may be printed, and each file is as before or as after the whole run.
@@ -19,6 +19,7 @@ from system.saving import last_line
 
 STACK = 256 * 1024
 SPACE = 64 * 1024 * 1024
+TIME = 2  # the time of a processor for what is selected
 MANY = 40  # how many of the greatest files a run checks
 ROOM = 256 * 1024 * 1024  # the memory for it, which is less than that of the files
 HOLD_SPENT = last_line("ENOMEM", 4)  # the last line of a hold without memory
@@ -61,6 +62,9 @@ def check(report: Report, program: str) -> None:
     for case, most in (*((each, ROOM) for each in of_many()), (greatest.lines(), 12 * LIMIT),
                        (copies.of_long_name(), SPACE)):
         report.check(case.name, faults_of(case, *run_case(program, case, preexec_fn=limit(resource.RLIMIT_AS, most))))
+    for case in (*greatest.selections(), *greatest_caches.selections()):
+        report.check(f"{case.name}, in {TIME} seconds",
+                     faults_of(case, *run_case(program, case, preexec_fn=limit(resource.RLIMIT_CPU, TIME))))
     those = [*greatest.reads(), *greatest.edits(), *greatest.talks(), *greatest_caches.listings(),
              *greatest_caches.reads(), *greatest_caches.matches(), *greatest_caches.edits()]
     for case in those:

@@ -26,12 +26,15 @@ REFUSED: list[str | Line] = [
         "klist": "-k -s c, -s --v1-big c, -s=yes c, -s --for c, -s --for= c, -s --for -1 c, -s -for 3 c, "
                  "-l --for 3 c, -l --v1-big c, -l=yes c",
         "ktremove": "-k old -k old k, -k -1 k, -k Old k, -k= k, -p b@R/ k, -p b@R, -p= k, --dry-run=yes -k old k, "
-                    "-k new --age 3 k, -k old --age= k, -k old --age 00000000003 k, -k old -age 3 k",
-        "ktcopy": "-n k, -p b@R k, -p= k t, -k New k t, -n=yes k t, -r k t, --expired k t, -k new --age 3 k t",
-        "ktdiff": "-n k t, -p= k t, -e 65536 k t, --replace k t, k, -as c@R k t, -k new k t",
+                    "-k new --age 3 k, -k old --age= k, -k old --age 00000000003 k, -k old -age 3 k, --keep= k, "
+                    "--keep -1 k, -keep 1 k, --keep 1, --same=yes k, --match= k, -match b@R k, -p b@R --none-ok=yes k",
+        "ktcopy": "-n k, -p b@R k, -p= k t, -k New k t, -n=yes k t, -r k t, --expired k t, -k new --age 3 k t, "
+                  "--keep 1 k t, --same k t, --none-ok k t, -p b@R -k 3 --as-kvno= k t, -p b@R -k 3 --as-kvno 3 k",
+        "ktdiff": "-n k t, -p= k t, -e 65536 k t, --replace k t, k, -as c@R k t, -k new k t, --match b k t",
         "ktmatch": "-p b@R/ k c, -p= k c, --service b@R k c, -p b@R, -k k c, --with-filename=yes k c, --want b@R k c",
         "ktcheck": "--older= k, -older 3 k, --want= k, --want @@ k, --with-filename=yes k, --only=b@R k",
-        "ccremove": "-p b@R, -p b@R\\ c, -k old c, --v1-big --expired c, -expired c, --all-services=yes c, -a c",
+        "ccremove": "-p b@R, -p b@R\\ c, -k old c, --v1-big --expired c, -expired c, --all-services=yes c, -a c, "
+                    "--same c, --match b c",
         "hold": "-c k, -kx k, -k=yes k, --in-place=yes k, --json k, -V k, -k"}.items() for rest in lines_of(those)),
     # Words that are not UTF-8, and empty ones.
     (b"\xff", "-k", "k"), ("klist", b"-k\xff", "k"), ("klist", "-c", "c", b"\xff"), ("klist", "-s", "--for", "", "c"),
@@ -63,13 +66,18 @@ SAME: dict[str, str] = {
     "ccremove --expired c": "ccremove c --expired, ccremove --expired c --expired, ccremove -pkrbtgt/R@R c, "
                             "ccremove c -p krbtgt/R@R, ccremove --expired -p krbtgt/R@R -- c",
     "ccremove -n -p host/a@R d": "ccremove --dry-run --service host/a@R d, ccremove -nn --service=host/a@R -n d, "
-                                 "ccremove -nphost/a@R d, ccremove -n --all-services d",
-    "ktremove -n -k old r": "ktremove --dry-run --kvno old r",
-    "ktremove -p b@R -e 17 -e 23 m": "ktremove --principal b@R --enctype=17 -e23 m",
+                                 "ccremove -nphost/a@R d, ccremove -n --all-services d, "
+                                 "ccremove --none-ok -n --match=host/a@* d",
+    "ktremove -n -k old r": "ktremove --dry-run --kvno old r, ktremove -n --keep 1 r, ktremove --keep=01 r -n",
+    "ktremove -n --match *@R r": "ktremove --match b@R r --match=*@R -n --match b@*, ktremove -nn --match *@R -p b@R r",
+    "ktremove --same -p host/a@R m": "ktremove --same --match host/a@R --same m --none-ok",
+    "ktremove -p b@R -e 17 -e 23 m": "ktremove --principal b@R --enctype=17 -e23 m, "
+                                     "ktremove --match b@R -e WEAK -e 17 m",
     "ktremove -p=b@R k": "ktremove --principal==b@R k",
     "ktcopy -n -p b@R -k new r t": "ktcopy --dry-run --principal=b@R --kvno=new r t",
     "ktcopy -e aes128-cts-hmac-sha1-96 r t": "ktcopy --enctype aes128-cts-hmac-sha1-96 r t",
     "ktcopy -n -p b@R --as c@R r t": "ktcopy --as=c@R r -np b@R t, ktcopy --dry-run --principal b@R r --as c@R -- t",
+    "ktcopy -p b@R -k 3 --as-kvno 4 r t": "ktcopy --as-kvno=0004 r --kvno new -pb@R -- t",
     "ktdiff -p b@R -e 17 r t": "ktdiff --principal=b@R r --enctype aes128-cts t, ktdiff -p b@R -e17 --v1-big FILE:r t",
     "ktmatch -q -p host/a@R k d": r"ktmatch --quiet k --principal=\host/a@R d, ktmatch -qphost/a@R -- FILE:k DIR::d",
     "ktmatch -H --json k d o": "ktmatch k d --json o, ktmatch --json --with-filename --v1-big k -- d FILE:o",

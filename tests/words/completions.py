@@ -42,9 +42,10 @@ LINES = {
     "klist -k --v": {"--v1-big"}, "--explain klist --js": {"--json"}, "--explain ktr": {"ktremove"},
     "help kte": {"ktedit"}, "ktfind --v1-big k 0 ": {*BY_NAME}, "ktcheck --allow ": {*FINDINGS}, "klist ": {"k"},
     "ktdiff ": {"k"}, "ktdiff k ": {"k"}, "ktmatch ": {"k"}, "ktmatch k k ": {"k"}, "ktmatch --p": {"--principal"},
-    "ktcopy --a": {"--as"}, "ktcheck --w": {"--want", "--with-filename"},
+    "ktcopy --a": {"--as", "--as-kvno"}, "ktcheck --w": {"--want", "--with-filename"},
     "ktcheck --o": {"--older", "--only"},
     **{" ".join((*run.words[:-1], "")): {"k"} for run in CHANGES if run.words[1:]},
+    "ktremove --k": {"--keep", "--kvno"}, "ktdiff --m": {"--match"}, "ccremove --no": {"--none-ok"},
     "ktremove -k ": {"old"}, "ktcopy --kvno ": {"new"}, "ktcopy k -e ": {*BY_NAME},
     "ktremove --enctype aes256-cts-hmac-sha1": {"aes256-cts-hmac-sha1-96"},
 }

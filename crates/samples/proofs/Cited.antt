@@ -2,7 +2,7 @@
 pub use Rattle.std.proofs.Common.{refl}
 pub use Rattle.std.specs.List.{filter_map, list_any}
 pub use Rattle.std.specs.Prelude.{◌≡◌, ◌+◌, ℕ, [], ◌∷◌, map, codes, true, false, None, Some, Ok, Err, ◌-◌, ◌*◌, List, ◌++◌, nat_lt, if◌then◌else◌, max, length, Bool, Option, option_map, unwrap_or, Result, slice_get, nat_eq, filter, ◌&&◌, replicate, pos, negsuc, ⊤}
-pub use Rattle.krb_audit.specs.declared.selection.SelectedKvno.TheVariants.{Old}
+pub use Rattle.krb_audit.specs.declared.selection.SelectedKvno.TheVariants.{Beyond}
 pub use Rattle.krb_driver.specs.declared.verdict.Verdict.TheVariants.{Without, Well}
 pub use Rattle.krb_editors.specs.Ccremove.{ended_by, ccremove_plan}
 pub use Rattle.krb_files.specs.Loading.{most_bytes}

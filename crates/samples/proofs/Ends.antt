@@ -1,5 +1,5 @@
 -- How runs end, when they read the clock, and what hold takes: worked by hand from krbfile(1).
-use Rattle.samples.proofs.Cited.{refl, ◌≡◌, ◌+◌, ℕ, [], ◌∷◌, map, codes, true, false, None, Some, Ok, Err, Old, Without, Well, ended_by, most_bytes, node_of, RunEnd, FileNotWritten, NoSuchFile, FileName, Word, Default, Ending, ending_status, end_status, error_status, save_error, ErrorWatch, is_missing, is_none, seen_after, needed_time, first_talk, most_frame, last_line}
+use Rattle.samples.proofs.Cited.{refl, ◌≡◌, ◌+◌, ℕ, [], ◌∷◌, map, codes, true, false, None, Some, Ok, Err, Beyond, Without, Well, ended_by, most_bytes, node_of, RunEnd, FileNotWritten, NoSuchFile, FileName, Word, Default, Ending, ending_status, end_status, error_status, save_error, ErrorWatch, is_missing, is_none, seen_after, needed_time, first_talk, most_frame, last_line}
 use Rattle.krb_driver.specs.Commands.{CommandPlan, always, of_file}
 use Rattle.krb_wire.specs.declared.format.Order.{Order}
 use Rattle.krb_walk.specs.declared.fault.FaultKind.TheVariants.{CutLength}
@@ -63,10 +63,10 @@ no-such-file file is = rw is refl
 -- ---- the clock
 
 -- an age needs the clock
-age-without-clock : needed_time (Old (Some 3600)) None ≡ Err error.ClockNotRead
+age-without-clock : needed_time (Beyond 1 (Some 3600)) None ≡ Err error.ClockNotRead
 age-without-clock = refl
 
-old-without-clock : needed_time (Old None) None ≡ Ok 0
+old-without-clock : needed_time (Beyond 1 None) None ≡ Ok 0
 old-without-clock = refl
 
 expired-without-clock : (o : TicketRemoval) → o.expired ≡ true → ended_by o None ≡ Err error.ClockNotRead

@@ -2,6 +2,7 @@
 use Rattle.samples.proofs.Cited.{refl, filter_map, ◌≡◌, [], ◌∷◌, codes, map, None, Some, Ok, Err, true, false, name_of, etype_in, etype_text_of, key_size_of, is_weak, seconds_in}
 use Rattle.krb_wire.specs.declared.name_fault.NameFault.TheVariants.{NoRealm, LoneBackslash, SecondAt, SlashInRealm}
 use Rattle.krb_wire.specs.Names.{name_text}
+use Rattle.krb_names.specs.Patterns.{fits, pattern_of, star}
 use Rattle.krb_text.specs.Word.{pieces}
 use Rattle.samples.proofs.Given.{hex, name}
 use Rattle.samples.proofs.Unfolded.{on_literals}
@@ -32,6 +33,16 @@ name-faults : map (λ text. name_of text None) (codes "a" ∷ codes "a\\" ∷ co
     ≡ Err NoRealm ∷ Err LoneBackslash ∷ Err SecondAt ∷ Err SlashInRealm ∷ []
 unfolding on_literals
 name-faults = refl
+
+-- a `*` without a backslash is a star in a pattern, any bytes of a component or of the realm
+stars : pattern_of (codes "**a\\*/\\\\*@R*") ≡ Ok (record { name_type = 1; realm = 82 ∷ star ∷ []; components = (star ∷ codes "a*") ∷ (92 ∷ star ∷ []) ∷ [] })
+unfolding on_literals
+stars = refl
+
+fitting : map (λ text. fits (record { name_type = 1; realm = codes "R"; components = (star ∷ 97 ∷ star ∷ 98 ∷ []) ∷ [] }) (name text)) (codes "aab@R" ∷ codes "abba@R" ∷ codes "ab@S" ∷ codes "ab/b@R" ∷ [])
+    ≡ true ∷ false ∷ false ∷ false ∷ []
+unfolding on_literals
+fitting = refl
 
 -- ---- encryption types, by IANA's numbers and MIT's names
 
