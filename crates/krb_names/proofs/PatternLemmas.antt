@@ -89,6 +89,15 @@ fits_end part bytes plain =
     (bytes_eq-Decides part (drop (length bytes - length part) bytes)).1 (same ∙ ap (λ n. drop n bytes) (sym at)))
     (λ ends. rest_from (fits_bytes part) (length bytes - length part) bytes (short (length bytes - length part) ∙ ends))
 
+ends_somewhere : (bytes : List ℕ) → of_some_rest (fits_bytes []) bytes ≡ true
+ends_somewhere [] = refl
+ends_somewhere (b ∷ bs) = ends_somewhere bs
+
+-- any bytes fit one star
+pub fits_star : (bytes : List ℕ) → fits_bytes (star ∷ []) bytes ≡ true
+fits_star [] = refl
+fits_star (b ∷ bs) = ends_somewhere bs
+
 -- ---- the first star
 
 -- there is no star before a place if none of the bytes before it is one

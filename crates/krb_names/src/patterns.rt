@@ -115,6 +115,9 @@ fn fits_after_star(pattern: &[u8], bytes: &[u8]) -> bool
 fn fits_bytes(pattern: &[u8], bytes: &[u8]) -> bool
     ensures { result ≡ fits_bytes pattern.now bytes.now }
 {
+    if pattern == [STAR].as_slice() {
+        return true;
+    }
     let Some((part, rest)) = split_at_star(pattern, bytes) else {
         return pattern == bytes;
     };

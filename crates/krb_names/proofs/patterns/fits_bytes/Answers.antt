@@ -1,11 +1,16 @@
-use Rattle.krb_names.proofs.Cited.{◌∙◌, sym, ap, arith, List, ℕ, ◌+◌, Bool, length, ◌&&◌, false}
+use Rattle.krb_names.proofs.Cited.{◌≡◌, [], ◌∷◌, bytes_eq-Decides, ◌∙◌, sym, ap, arith, List, ℕ, ◌+◌, Bool, length, ◌&&◌, false}
 use Rattle.std.proofs.Common.{drop}
-use Rattle.krb_names.specs.Patterns.{fits_bytes, of_some_rest}
-use Rattle.krb_names.proofs.PatternLemmas.{fits_part, fits_short}
+use Rattle.krb_names.specs.Patterns.{fits_bytes, of_some_rest, star}
+use Rattle.krb_names.proofs.PatternLemmas.{fits_part, fits_short, fits_star}
 use Rattle.krb_names.proofs.patterns.fits_bytes.Goals as goal
 
+pub returns-then-eq : goal.returns-then-eq
+returns-then-eq c =
+    let is : c.args.pattern.now ≡ star ∷ [] = (bytes_eq-Decides c.args.pattern.now c.as_slice.result.now).0 (sym c.eq.ensures ∙ c.if-eq.true) ∙ c.as_slice.ensures in
+    sym (ap (λ (p : List ℕ). fits_bytes p c.args.bytes.now) is ∙ fits_star c.args.bytes.now)
+
 pub returns-in_default : goal.returns-in_default
-returns-in_default c = c.eq.ensures ∙ sym (fits_short (length c.args.bytes.now + 1) c.args.pattern.now c.args.bytes.now (omega arith) c.in_default.ensures)
+returns-in_default c = c.eq-in_default.ensures ∙ sym (fits_short (length c.args.bytes.now + 1) c.args.pattern.now c.args.bytes.now (omega arith) c.in_default.ensures)
 
 pub returns-then-starts_with : goal.returns-then-starts_with
 returns-then-starts_with c =
