@@ -2,7 +2,6 @@
 use Rattle.krb_names.proofs.Numbered.{number_test}
 use Rattle.krb_names.proofs.SameNames.{same_equiv}
 use Rattle.krb_text.specs.Etype.{is_weak}
-use Rattle.krb_audit.specs.Standings.{still_marked}
 use Rattle.krb_audit.proofs.Cited.{filter, ◌&&◌, Bool, replicate, cases_lt, get_or-replicate, get_or_past, length-replicate, name_in, at_number, stepped, have_same_name, Parts, Some, ◌≡◌, ℕ, cond, List, [], ◌∷◌, length, map, get_or, Option, Some, refl, ap, ◌∙◌, arith, fold, eqb-true, eq-eqb, PlacedEntry, Row, Stamp, AreRows, HasPlace, first_number, stamp_of, drop, get_or-set_same, get_or-set_other}
 
 -- a row is that of an entry among all
@@ -16,13 +15,6 @@ head_row all xs x r rs h = search arith
 
 pub other_rows : (all xs : List PlacedEntry) (x : PlacedEntry) (r : Row) (rs : List Row) → AreRows all (x ∷ xs) (r ∷ rs) → AreRows all xs rs
 other_rows all xs x r rs h = ap (λ (l : List (Option ℕ × Stamp × Bool)). drop 1 l) h
-
--- marks of entries: those stay whose row passes a test
-pub still_rows : (f : Row → Bool) (p g h : PlacedEntry → Bool) (all : List PlacedEntry) → ((r : Row) (x : PlacedEntry) → IsRow all x r → f r ≡ g x) → ((x : PlacedEntry) → (p x && g x) ≡ h x) → (xs : List PlacedEntry) (rows : List Row) → AreRows all xs rows → still_marked f (map p xs) rows ≡ map h xs
-still_rows f p g h all each both [] [] are = refl
-still_rows f p g h all each both [] (r ∷ rs) are = absurd cc
-still_rows f p g h all each both (x ∷ xs) [] are = absurd cc
-still_rows f p g h all each both (x ∷ xs) (r ∷ rs) are = grind (arith, each r x (head_row all xs x r rs are), both x, still_rows f p g h all each both xs rs (other_rows all xs x r rs are))
 
 -- rows that pass a test are those of the entries that do
 pub filter_rows : (f : Row → Bool) (g : PlacedEntry → Bool) (all : List PlacedEntry) → ((r : Row) (x : PlacedEntry) → IsRow all x r → f r ≡ g x) → (xs : List PlacedEntry) (rows : List Row) → AreRows all xs rows → AreRows all (filter g xs) (filter f rows)

@@ -1,12 +1,15 @@
 -- The names with young entries or strong ones, and the selected entries, from rows.
-use Rattle.krb_audit.proofs.Cited.{AreStrong, is_strong_row, at_number, get_or, ◌≡◌, arith, refl, ℕ, Bool, false, cond, List, [], ◌∷◌, map, Option, ap, sym, ◌∙◌, ◌&&◌, ◌||◌, ◌==◌, not, fold, list_any, Parts, EntryParts, have_same_name, PlacedEntry, Row, Stamp, is_old, AreRows, has_selected_kvno, AreNewest, selects_row, or-false, Any, Exactly, Newest, Beyond, Some, is_young, AreYoung, is_old_row, is_young_row}
+use Rattle.krb_audit.proofs.Cited.{filter, filter_agree, eq-eqb, name_in, subst, AreStrong, is_strong_row, at_number, get_or, ◌≡◌, arith, refl, ℕ, Bool, false, cond, List, [], ◌∷◌, map, Option, ap, sym, ◌∙◌, ◌&&◌, ◌||◌, ◌==◌, not, fold, list_any, Parts, EntryParts, have_same_name, PlacedEntry, Row, Stamp, is_old, AreRows, has_selected_kvno, AreNewest, selects_row, or-false, Any, Exactly, Newest, Beyond, Some, is_young, AreYoung, is_old_row, is_young_row}
 use Rattle.krb_text.specs.Etype.{is_weak}
 use Rattle.krb_audit.specs.declared.selection.SelectedKvno.{SelectedKvno}
+use Rattle.krb_names.proofs.Numbered.{number_test}
+use Rattle.krb_names.proofs.SameNames.{same_equiv}
+use Rattle.krb_audit.proofs.LeftLemmas.{IsOfVersions, are_next, filter_twice, left_alike, left_are}
 use Rattle.krb_audit.proofs.NewestStamps.{old_row}
-use Rattle.krb_audit.proofs.RowLemmas.{IsRow, at_name, still_rows}
+use Rattle.krb_audit.proofs.RowLemmas.{IsRow, at_name, filter_rows}
 use Rattle.krb_audit.specs.Newest.{is_left, left_after}
 use Rattle.krb_audit.specs.Selection.{is_old_for}
-use Rattle.krb_audit.specs.Standings.{AreYoungOf, more_kept, still_marked}
+use Rattle.krb_audit.specs.Standings.{AreYoungOf, more_kept, selected_marks}
 use Rattle.std.specs.Prelude.{◌-◌}
 
 -- ---- names with a young entry
@@ -49,9 +52,21 @@ left_selected (Exactly version) now xs e = refl
 left_selected Newest now xs e = refl
 left_selected (Beyond keep age) now xs e = refl
 
-pub are_selected : (kvno : SelectedKvno) (now : ℕ) (xs : List PlacedEntry) (newest : List (Option Stamp)) (young marks : List Bool) (rows : List Row) → AreRows xs xs rows → AreNewest xs (left_after (more_kept kvno) xs) newest → AreYoung kvno now xs (left_after (more_kept kvno) xs) young
-    → marks ≡ map (λ x. is_left (more_kept kvno) xs x.1) xs → still_marked (selects_row kvno newest young) marks rows ≡ map (λ x. has_selected_kvno kvno now xs x.1) xs
-are_selected kvno now xs newest young marks rows are stamps ages left =
-    ap (λ (ms : List Bool). still_marked (selects_row kvno newest young) ms rows) left
-    ∙ still_rows (selects_row kvno newest young) (λ x. is_left (more_kept kvno) xs x.1) (λ x. may_go kvno now xs x.1) (λ x. has_selected_kvno kvno now xs x.1) xs
-    (λ r x row. selects_by kvno now xs newest young r x stamps ages row) (λ x. left_selected kvno now xs x.1) xs rows are
+selects_alike : (kvno : SelectedKvno) (newest : List (Option Stamp)) (young : List Bool) (r s : Row) → s.first ≡ r.first → s.stamp.kvno ≡ r.stamp.kvno → selects_row kvno newest young r ≡ selects_row kvno newest young s
+selects_alike Any newest young r s first version = refl
+selects_alike (Exactly given) newest young r s first version = ap (λ (n : ℕ). n == given) (sym version)
+selects_alike Newest newest young r s first version = grind (arith, first, version)
+selects_alike (Beyond keep age) newest young r s first version = grind (arith, first, version)
+
+pub are_selected : (kvno : SelectedKvno) (now : ℕ) (xs : List PlacedEntry) (newest : List (Option Stamp)) (young : List Bool) (rows left : List Row) → AreRows xs xs rows → AreRows xs (left_after (more_kept kvno) xs) left → AreNewest xs (left_after (more_kept kvno) xs) newest → AreYoung kvno now xs (left_after (more_kept kvno) xs) young
+    → selected_marks (filter (selects_row kvno newest young) left) rows ≡ map (λ x. has_selected_kvno kvno now xs x.1) xs
+are_selected kvno now xs newest young rows left are are_left stamps ages =
+    let n = more_kept kvno in
+    let selects : (r : Row) (x : PlacedEntry) → IsRow xs x r → selects_row kvno newest young r ≡ may_go kvno now xs x.1 = λ r x row. selects_by kvno now xs newest young r x stamps ages row in
+    let same = ap (filter (λ x. may_go kvno now xs x.1)) (left_are n xs) ∙ filter_twice (λ x. is_left n xs x.1) (λ x. may_go kvno now xs x.1) xs ∙ filter_agree _ _ (λ (x : PlacedEntry). left_selected kvno now xs x.1) xs in
+    let alike : IsOfVersions xs (λ x. has_selected_kvno kvno now xs x.1) = λ r s x y of_x of_y first version.
+    let names = sym (number_test name_in have_same_name same_equiv x.1.principal y.1.principal xs r.first s.first of_x.first of_y.first) ∙ eq-eqb r.first s.first (sym first) in
+    let versions : x.1.version ≡ y.1.version = ap (λ (t : Stamp). t.kvno) (sym of_x.stamp) ∙ sym version ∙ ap (λ (t : Stamp). t.kvno) of_y.stamp in
+    let going = sym (selects r x of_x) ∙ selects_alike kvno newest young r s first version ∙ selects s y of_y in
+    sym (left_selected kvno now xs x.1) ∙ (λ i. left_alike n xs x.1 y.1 names versions i && going i) ∙ left_selected kvno now xs y.1 in
+    are_next xs (λ x. has_selected_kvno kvno now xs x.1) alike xs rows _ are (subst (λ (ys : List PlacedEntry). AreRows xs ys (filter (selects_row kvno newest young) left)) same (filter_rows (selects_row kvno newest young) (λ x. may_go kvno now xs x.1) xs selects (left_after n xs) left are_left))

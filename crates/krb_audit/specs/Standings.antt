@@ -1,5 +1,5 @@
 -- How entries rank, and which kvnos are selected, from the rows of entries.
-use Rattle.std.specs.Prelude.{◌≡◌, ℕ, ◌+◌, ◌-◌, drop, map, List, [], ◌∷◌, get_or, Bool, false, true, not, ◌&&◌, ◌==◌, Option, Some, None, option_map}
+use Rattle.std.specs.Prelude.{◌≡◌, ℕ, ◌+◌, ◌-◌, drop, map, List, [], ◌∷◌, get_or, Bool, false, true, not, if◌then◌else◌, ◌&&◌, ◌==◌, Option, Some, None, option_map}
 use Rattle.std.specs.List.{list_any}
 use Rattle.std.specs.Option.{option_map_or}
 use Rattle.krb_wire.specs.Spelling.{Parts}
@@ -8,10 +8,9 @@ use Rattle.krb_audit.specs.declared.rows.Row.{Row}
 use Rattle.krb_audit.specs.declared.selection.SelectedKvno.{SelectedKvno}
 use Rattle.krb_audit.specs.declared.selection.SelectedKvno.TheVariants.{Any, Exactly, Newest, Beyond}
 use Rattle.krb_audit.specs.declared.newest.Stamp.{Stamp}
-use Rattle.krb_audit.specs.Newest.{has_other_version, is_left, left_after}
+use Rattle.krb_audit.specs.Newest.{has_other_version}
 use Rattle.krb_audit.specs.Ranks.{RankParts, is_strong_of}
 use Rattle.krb_audit.specs.Rows.{AreRows, first_number, newest_stamp, stamped}
-use Rattle.krb_audit.specs.declared.left.Left.{Left}
 use Rattle.krb_audit.specs.Selection.{has_young, is_young}
 
 -- the stamps are those of the newest entries of `xs`, whose names are numbered among all
@@ -42,20 +41,24 @@ selects_row (Exactly version) newest young r = r.stamp.kvno == version
 selects_row Newest newest young r = not (is_old_row newest r)
 selects_row (Beyond keep age) newest young r = not (get_or young r.first false) && is_old_row newest r
 
--- of marks of rows, those stay whose row passes a test
-abbrev pub still_marked : (Row → Bool) → List Bool → List Row → List Bool
-still_marked test marks [] = []
-still_marked test marks (r ∷ rs) = (get_or marks 0 false && test r) ∷ still_marked test (drop 1 marks) rs
+-- a row has the name and the kvno of the first of some rows
+abbrev pub is_next : List Row → Row → Bool
+is_next [] r = false
+is_next (s ∷ rows) r = s.first == r.first && s.stamp.kvno == r.stamp.kvno
+
+-- the rows after the first one, if a row has its name and its kvno
+abbrev pub after_next : List Row → Row → List Row
+after_next rows r = if is_next rows r then drop 1 rows else rows
+
+-- for each row, whether it is the next one of those selected
+abbrev pub selected_marks : List Row → List Row → List Bool
+selected_marks selected [] = []
+selected_marks selected (r ∷ rs) = is_next selected r ∷ selected_marks (after_next selected r) rs
 
 -- how many of the newest kvnos are passed over before the last one that is kept
 abbrev pub more_kept : SelectedKvno → ℕ
 more_kept (Beyond keep age) = keep - 1
 more_kept kvno = 0
-
--- without the n newest kvnos of each name: which entries are left, and their rows
-pub record AreLeft {A : Type 0} (n : ℕ) (xs : List PlacedEntry) (left : Left A) : Type 0 where
-  pub marks : left.marks.items ≡ map (λ x. is_left n xs x.1) xs
-  pub rows : AreRows xs (left_after n xs) left.rows.items
 
 -- ---- ranks
 

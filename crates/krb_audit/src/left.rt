@@ -2,22 +2,14 @@
 
 ghost use Rattle.std.specs.Prelude.{◌≡◌, List, IfOk, filter};
 ghost use Rattle.krb_keytab.specs.Find.{PlacedEntry};
+ghost use Rattle.krb_audit.specs.Newest.{left_after};
 ghost use Rattle.krb_audit.specs.Rows.{AreRows};
-ghost use Rattle.krb_audit.specs.Standings.{AreLeft, is_old_row};
+ghost use Rattle.krb_audit.specs.Standings.{is_old_row};
 
 use crate::newest::{Stamp, is_old, newest_stamps};
 use crate::rows::Row;
-use crate::selection::SelectedKvno;
-use crate::versions::still_marked;
 use krb_wire::NoMemory;
 use std::alloc::Allocator;
-
-/// Which entries are left, and their rows.
-#[derive(Drop)]
-pub struct Left<A: Allocator> {
-    pub marks: Vec<bool, A>,
-    pub rows: Vec<Row, A>,
-}
 
 // Removes the rows of the newest kvno of each name.
 fn remove_newest<A: Allocator>(newest: &[Option<Stamp>], rows: &mut Vec<Row, A>)
@@ -26,32 +18,18 @@ fn remove_newest<A: Allocator>(newest: &[Option<Stamp>], rows: &mut Vec<Row, A>)
     rows.retain(|row| is_old(newest, *row));
 }
 
-/// Returns what is left of the entries of these rows without the `kvnos` newest kvnos of each name. Takes a pass for each
-/// of them.
+/// Returns those rows that are left of these without the `kvnos` newest kvnos of each name. Takes a pass for each kvno.
 pub fn left_after<A: Allocator + Copy>(
     alloc: A,
     rows: &[Row],
     kvnos: u8,
-) -> Result<Left<A>, NoMemory>
-    ensures { (xs : List PlacedEntry) → AreRows xs xs rows.now → IfOk result (AreLeft kvnos xs) }
+) -> Result<Vec<Row, A>, NoMemory>
+    ensures { (xs : List PlacedEntry) → AreRows xs xs rows.now → IfOk result (λ left. AreRows xs (left_after kvnos xs) left.items) }
 {
-    let mut marks = Vec::new(alloc);
-    marks.resize(rows.len(), true)?;
-    let mut left = Left {
-        marks,
-        rows: rows.to_vec(alloc)?,
-    };
+    let mut left = rows.to_vec(alloc)?;
     'kvnos: for _kvno in 0..kvnos {
-        let newest = newest_stamps(alloc, &left.rows)?;
-        left.marks = still_marked(
-            alloc,
-            &left.marks,
-            SelectedKvno::Beyond(1, None),
-            &newest,
-            &[],
-            rows,
-        )?;
-        remove_newest(&newest, &mut left.rows);
+        let newest = newest_stamps(alloc, &left)?;
+        remove_newest(&newest, &mut left);
     }
     Ok(left)
 }

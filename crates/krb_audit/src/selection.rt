@@ -137,7 +137,7 @@ fn take_if<'k, T: Taker<'k>>(
 }
 
 // Hands on the entries of a keytab that are selected. Returns whether some entry has a selected name, enctype and, if one
-// is given, kvno. Takes time n log n in the bytes of the keytab and the names, and for each pattern the bytes of the keytab.
+// is given, kvno.
 fn take_selected<'k, A: Allocator + Copy, B: Allocator, T: Taker<'k>>(
     alloc: A,
     label: &[u8],
@@ -166,7 +166,8 @@ fn take_selected<'k, A: Allocator + Copy, B: Allocator, T: Taker<'k>>(
 }
 
 /// Returns the entries of a keytab that `selection` selects at the time `now`, in seconds, which matters if its kvno
-/// `needs_clock`. Takes time n log n in the bytes of the keytab and the names.
+/// `needs_clock`. Takes time n log n in the bytes of the keytab and the names, and a pass over the keytab for each pattern
+/// and each kvno that is kept.
 pub fn select<A: Allocator + Copy, B: Allocator>(
     alloc: A,
     label: &[u8],
@@ -185,8 +186,7 @@ pub fn select<A: Allocator + Copy, B: Allocator>(
     Ok(selected)
 }
 
-/// Returns the entries of a keytab that `selection` selects, with the places of their records. Takes time n log n in
-/// the bytes of the keytab and the names.
+/// Returns the entries of a keytab that `selection` selects, with the places of their records, in the time of `select`.
 pub fn selected_entries<'k, A: Allocator + Copy, B: Allocator>(
     alloc: A,
     keytab: &'k Keytab<A>,

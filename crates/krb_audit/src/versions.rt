@@ -1,9 +1,9 @@
 //! The selected kvnos, for a pass over the entries of a keytab.
 
-ghost use Rattle.std.specs.Prelude.{◌≡◌, ◌∷◌, ℕ, List, IfOk, drop, false, get_or, map};
+ghost use Rattle.std.specs.Prelude.{◌≡◌, ◌∷◌, ℕ, List, IfOk, false, filter, get_or, map};
 ghost use Rattle.krb_keytab.specs.Find.{PlacedEntry, placed_entries};
 ghost use Rattle.krb_audit.specs.Selection.{has_selected_kvno};
-ghost use Rattle.krb_audit.specs.Standings.{more_kept, selects_row, still_marked};
+ghost use Rattle.krb_audit.specs.Standings.{after_next, is_next, more_kept, selected_marks, selects_row};
 ghost use Rattle.krb_audit.specs.Versions.{AreVersions};
 ghost use Rattle.krb_audit.specs.declared.selection.SelectedKvno.{SelectedKvno};
 
@@ -44,35 +44,47 @@ fn selects_row(kvno: SelectedKvno, newest: &[Option<Stamp>], young: &[bool], row
     }
 }
 
-// Returns the first mark, or `false` if there is none, and the others.
-fn first_mark(marks: &[bool]) -> (bool, &[bool])
-    ensures { (result.0 ≡ get_or marks.now 0 false) × (result.1.now ≡ drop 1 marks.now) }
-{
-    match marks.split_first() {
-        Some((mark, others)) => (*mark, others),
-        None => (false, marks),
-    }
-}
-
-/// Returns the marks that stay: those whose row's entry has a selected kvno.
-pub fn still_marked<A: Allocator + Copy>(
-    alloc: A,
-    marks: &[bool],
+// Removes the rows whose entries have no selected kvno.
+fn keep_selected<A: Allocator>(
     kvno: SelectedKvno,
     newest: &[Option<Stamp>],
     young: &[bool],
+    rows: &mut Vec<Row, A>,
+)
+    ensures { rows.new.items ≡ filter (selects_row kvno newest.now young.now) rows.old.items }
+{
+    rows.retain(|row| selects_row(kvno, newest, young, *row));
+}
+
+// Returns whether a row has the name and the kvno of the first of those that are selected, and the others if it does.
+fn next_selected(selected: &[Row], row: Row) -> (bool, &[Row])
+    ensures { (result.0 ≡ is_next selected.now row) × (result.1.now ≡ after_next selected.now row) }
+{
+    match selected.split_first() {
+        Some((next, others)) => {
+            let is_next = next.first == row.first && next.stamp.kvno == row.stamp.kvno;
+            (is_next, if is_next { others } else { selected })
+        }
+        None => (false, selected),
+    }
+}
+
+// Returns for each row whether it is one of those that are selected, which are in the same order.
+fn selected_marks<A: Allocator + Copy>(
+    alloc: A,
+    selected: &[Row],
     rows: &[Row],
 ) -> Result<Vec<bool, A>, NoMemory>
-    ensures { IfOk result (λ still. still.items ≡ still_marked (selects_row kvno newest.now young.now) marks.now rows.now) }
+    ensures { IfOk result (λ marks. marks.items ≡ selected_marks selected.now rows.now) }
 {
-    let mut still = Vec::with_capacity(alloc, rows.len())?;
-    let mut marks_left = marks;
+    let mut marks = Vec::with_capacity(alloc, rows.len())?;
+    let mut selected = selected;
     'rows: for row in rows {
-        let (mark, others) = first_mark(marks_left);
-        still.push(mark & selects_row(kvno, newest, young, *row))?;
-        marks_left = others;
+        let (is_next, others) = next_selected(selected, *row);
+        marks.push(is_next)?;
+        selected = others;
     }
-    Ok(still)
+    Ok(marks)
 }
 
 // Returns how many of the newest kvnos are passed over before the last one that is kept.
@@ -97,10 +109,11 @@ fn marks_of<A: Allocator + Copy>(
         ≡ map (λ x. has_selected_kvno kvno now (placed_entries keytab.now.state) x.1) (placed_entries keytab.now.state)) }
 {
     let rows = rows_of(alloc, keytab)?;
-    let left = left_after(alloc, &rows, more_kept(kvno))?;
-    let newest = newest_stamps(alloc, &left.rows)?;
-    let young = young_names(alloc, &left.rows, &newest, kvno, now)?;
-    Ok(still_marked(alloc, &left.marks, kvno, &newest, &young, &rows)?)
+    let mut left = left_after(alloc, &rows, more_kept(kvno))?;
+    let newest = newest_stamps(alloc, &left)?;
+    let young = young_names(alloc, &left, &newest, kvno, now)?;
+    keep_selected(kvno, &newest, &young, &mut left);
+    Ok(selected_marks(alloc, &left, &rows)?)
 }
 
 impl<A: Allocator + Copy> SelectedVersions<A> {
