@@ -1,6 +1,5 @@
 -- The handle and its parts own what a box at the same types owns.
-use Rattle.krb_c.proofs.Cited.{impl, tnil, dnil, Slot, plain, Bx, ghosts, dict}
-use mathlib.Core.List.{[]}
+use Rattle.krb_c.proofs.Cited.{impl, tnil, dnil, Slot, plain, Bx, ghosts, dict, []}
 use Rattle.std_heap.specs.contracts.Global as Heap
 use Rattle.std_heap.proofs.Global.TheLaws as heap
 use Rattle.krb_c.specs.contracts.held.Held as Held

@@ -1,8 +1,7 @@
 -- A live credential is read in place: the cache of an image was read from it.
-use Rattle.std.proofs.Common.{◌≡◌, ℕ, ◌+◌, Bool, true, false, cond, List, [], ◌∷◌, ◌++◌, length, drop, Option, Some, None, Result, Ok, Err, refl, sym, ap, subst, ◌∙◌, arith}
-use Rattle.krb_c.proofs.Cited.{◌==◌, nat_lt, option_map, find, Parts, AllByRecursion, cc_principal_at, live_bytes, Version, Field, header_at, CacheState, credentials_format, version_in, open_default, open_header, open_version, open_result, store_of, first_place, placed_from, live_of, credential_at_place}
+use Rattle.krb_c.proofs.Cited.{◌==◌, nat_lt, option_map, find, Parts, AllByRecursion, cc_principal_at, live_bytes, Version, Field, header_at, CacheState, credentials_format, version_in, open_default, open_header, open_version, open_result, store_of, first_place, placed_from, live_of, credential_at_place, ◌≡◌, ℕ, ◌+◌, Bool, true, false, cond, List, [], ◌∷◌, ◌++◌, length, drop, Option, Some, None, Result, Ok, Err, refl, sym, ap, subst, ◌∙◌, arith}
 use Rattle.std.proofs.lemmas.List.{append-nil}
-use Rattle.krb_wire.proofs.Fields.{IsBytes, IsBytes-drop}
+use Rattle.krb_wire.proofs.Fields.{IsBytes, IsBytes-drop, ok_is}
 use Rattle.krb_wire.proofs.Principals.{cc_principal_field}
 use Rattle.krb_cells.specs.Contents.{Contents, contents, IsCell}
 use Rattle.krb_cells.proofs.ContentsLemmas.{contents_spelled}
@@ -26,9 +25,6 @@ record WasRead (k : CacheState) : Type 0 where
 abbrev Opened : Type 0
 Opened = Result CacheState CcOpenFault
 
-ok_is : (j k : CacheState) → ◌≡◌ {A = Opened} (Ok j) (Ok k) → j ≡ k
-ok_is j k e = cc
-
 default_read : (v : Version) (limit : ℕ) (xs : List Field) (bytes : List ℕ) (o : Option (Parts × List ℕ)) (k : CacheState) → IsBytes bytes → cc_principal_at bytes ≡ o → open_default v limit xs o ≡ Ok k → WasRead k
 default_read v limit xs bytes None k fits is e = absurd cc
 default_read v limit xs bytes (Some p) k fits is e =
@@ -40,8 +36,7 @@ header_read v limit bytes None k fits is e = absurd cc
 header_read v limit bytes (Some h) k fits is e = default_read v limit h.0 h.1 (cc_principal_at h.1) k (header_takes v bytes h fits is).rest_fits refl e
 
 unless : (refused : Bool) (why : CcOpenFault) (opened : Opened) (k : CacheState) → cond refused (Err why) opened ≡ Ok k → opened ≡ Ok k
-unless true why opened k e = absurd cc
-unless false why opened k e = e
+unless refused why opened k e = search arith
 
 version_read : (limit : ℕ) (bytes : List ℕ) (o : Option Version) (k : CacheState) → IsBytes bytes → open_version limit bytes o ≡ Ok k → WasRead k
 version_read limit bytes None k fits e = absurd cc
@@ -60,8 +55,7 @@ cells_sound k image fits again =
 -- ---- the credential at a place
 
 live_same : (b : Bool) (c x : CredParts) → cond b None (Some c) ≡ Some x → c ≡ x
-live_same true c x e = absurd cc
-live_same false c x e = cc
+live_same b c x e = grind (arith, e)
 
 found_by : (v : Version) (at p : ℕ) (c x : CredParts) (cs : List CredParts) (b : Bool) → (live_of (find (λ y. y.0 == p) (placed_from v (at + length (credential v c)) cs)) ≡ Some x → IsCell (credentials_format v) x) → IsCell (credentials_format v) c
     → live_of (cond b (Some (at, c)) (find (λ y. y.0 == p) (placed_from v (at + length (credential v c)) cs))) ≡ Some x → IsCell (credentials_format v) x

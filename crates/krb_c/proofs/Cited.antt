@@ -1,8 +1,8 @@
 -- The names that the proofs cite most, passed on from one place. Declares nothing.
 unfoldable pub use contract.Running.{tables_of}
-pub use Rattle.std.proofs.Common.{◌≡◌, subst, refl, inr, inl}
+pub use Rattle.std.proofs.Common.{◌≡◌, subst, refl, inr, inl, sym, ap, ◌∙◌, ◌+◌, Bool, true, false, cond, List, [], ◌∷◌, ◌++◌, length, drop, arith}
 pub use Rattle.std.proofs.alloc.Calls.{handle_tells, token, Goes-blank}
-pub use Rattle.std.specs.Prelude.{None, Some, Option, find, ◌⊎◌, ◌==◌, Err, IfErr, option_map, IsOk, Result, ℕ, Ok, nat_lt}
+pub use Rattle.std.specs.Prelude.{None, Some, Option, find, ◌⊎◌, ◌==◌, Err, IfErr, option_map, IsOk, Result, ℕ, Ok, nat_lt, IfSome, IfOk, OnOk}
 pub use Rattle.std_alloc.proofs.BoxSteps.Form.{D, B, box_typed, word, Bx, τ, P, R, args, box_ty}
 pub use Rattle.std_alloc.proofs.BoxSteps.Steps.{box_in, box_out}
 pub use denote.Exit.{yes, no}
@@ -43,8 +43,10 @@ pub use denote.Triple.Clauses.{Ended, Clauses}
 pub use denote.Triple.Statement.{Triple, Contract}
 pub use Rattle.std_alloc.specs.Box.Ownership.{box_owns}
 pub use Rattle.krb_walk.specs.Store.{Store, IsPlace, IsSound, is_place, end_of, stop_at, live_bytes}
-pub use Rattle.std.specs.List.{AllByRecursion}
+pub use Rattle.std.specs.List.{AllByRecursion, list_all}
 pub use Rattle.krb_c.specs.Status.{Adds, refusal_status, name_status}
 pub use denote.Struct.Struct.{exits_of, within}
 pub use denote.Struct.Owning.{shape, fields, to}
 pub use Rattle.krb_wire.specs.Reading.{principal_parts, cc_principal_at}
+pub use contract.BorrowLft.{◌⊑◌}
+pub use mir.MapTy.{inst_fn}

@@ -1,6 +1,5 @@
 -- After the length and the version of an image, only its header or its default principal is refused.
-use Rattle.std.proofs.Common.{ℕ, List, Option, Some, None, refl, inl, inr}
-use Rattle.krb_c.proofs.Cited.{IfErr, Parts, Version, Field, open_default, open_header}
+use Rattle.krb_c.proofs.Cited.{IfErr, Parts, Version, Field, open_default, open_header, ℕ, List, Option, Some, None, refl, inl, inr}
 use Rattle.krb_c.specs.CacheOpens.{IsDeeper}
 
 default_is_deeper : (v : Version) (limit : ℕ) (xs : List Field) (p : Option (Parts × List ℕ)) → IfErr (open_default v limit xs p) IsDeeper

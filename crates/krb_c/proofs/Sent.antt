@@ -7,8 +7,7 @@ use Rattle.krb_ccache.specs.contracts.ccache.Ccache as Ccache
 use Rattle.krb_ccache.proofs.ccache.Ccache.TheSendSync as ccache
 use Rattle.krb_c.proofs.walked.Walked.TheSendSync as walked
 use Rattle.krb_c.specs.contracts.held.Held as Held
-use Rattle.krb_c.proofs.Cited.{impl, tnil, dnil, RattleType, IsSend, EachSend, Frees, sendable, recorded_send, enum_send, ghosts, dict}
-use mathlib.Core.List.{[]}
+use Rattle.krb_c.proofs.Cited.{impl, tnil, dnil, RattleType, IsSend, EachSend, Frees, sendable, recorded_send, enum_send, ghosts, dict, []}
 use Rattle.std.specs.declared.alloc.Allocator.{Ghosts}
 use Rattle.std_heap.specs.contracts.Global as Global
 use Rattle.wiping.specs.contracts.allocator.Wiping as Wiping

@@ -1,7 +1,4 @@
 -- What is known of a store behind a handle, and the status of a refusal.
-use Rattle.std.proofs.Common.{◌≡◌, ℕ, Option, Some, None, Result, Ok, Err, sym, ap, subst, ◌∙◌, inl, inr, refl}
-use Rattle.std.specs.Prelude.{IfSome, IfOk, OnOk, List, [], ◌∷◌, true}
-use Rattle.std.specs.List.{list_all}
 use Rattle.krb_walk.specs.declared.refusal.Code.{Code}
 use Rattle.krb_walk.specs.declared.refusal.Refusal.{Refusal}
 use Rattle.krb_walk.specs.declared.refusal.Refusal.TheVariants.{Code as ByCode, NoMemory}
@@ -9,7 +6,7 @@ use Rattle.krb_walk.specs.Rules.{PutGives, CutGives}
 use Rattle.krb_walk.specs.Changes.{Puts, Cuts}
 use Rattle.krb_walk.specs.Events.{stop_cursor}
 use Rattle.krb_walk.specs.declared.stop.Stop.TheVariants.{Live}
-use Rattle.krb_c.proofs.Cited.{Store, IsPlace, IsSound, is_place, end_of, stop_at, AreKnown, AllByRecursion, Adds, refusal_status}
+use Rattle.krb_c.proofs.Cited.{Store, IsPlace, IsSound, is_place, end_of, stop_at, AreKnown, AllByRecursion, Adds, refusal_status, ◌≡◌, ℕ, Option, Some, None, Result, Ok, Err, sym, ap, subst, ◌∙◌, inl, inr, refl, list_all, IfSome, IfOk, OnOk, List, [], ◌∷◌, true}
 use Rattle.krb_walk.proofs.Cells.{stops_live}
 use Rattle.krb_walk.proofs.Lists.{some_is}
 use Rattle.krb_walk.proofs.Places.{Extends, puts-extends, cuts-extends, place_kept, stop_place}

@@ -1,9 +1,9 @@
 -- The names that the proofs cite most, passed on from one place. Declares nothing.
 unfoldable pub use Rattle.krb_copy.specs.Copying.{copy_run}
-pub use Rattle.std.proofs.Common.{List, ◌++◌, ℕ, sym, ap, ◌∙◌, subst, ◌≡◌, ◌∷◌, [], true, refl, Bool, cond, false, Ok, Some, arith, Result, Err, ◌+◌, take, length, drop, None, ◌<◌, inl, Option, append_assoc, inr, get_or, ◌*◌, ◌/◌, ◌≤◌, ◌-◌}
+pub use Rattle.std.proofs.Common.{List, ◌++◌, ℕ, sym, ap, ◌∙◌, subst, ◌≡◌, ◌∷◌, [], true, refl, Bool, cond, false, Ok, Some, arith, Result, Err, ◌+◌, take, length, drop, None, ◌<◌, inl, Option, append_assoc, inr, get_or, ◌*◌, ◌/◌, ◌≤◌, ◌-◌, rules}
 pub use Rattle.std.proofs.lemmas.Bool.{cases_Bool, ne_eqb, eqb-true, or_right, eq-eqb, not-false, or_cases, or_left, or_parts, both_ways, cases_eq, and_parts, cond_both, not-true, or_from, cases_lt}
 pub use Rattle.std.proofs.lemmas.List.{append-nil, map_push, take_at, drop_more, take_more, take_all, drop_all, map-append, length-replicate, nil_from_length, get_or-set_other, get_or-replicate, get_or_past, length_push}
-pub use Rattle.std.proofs.lemmas.List.Folds.{list_any-append, flat_map-map, find-append}
+pub use Rattle.std.proofs.lemmas.List.Folds.{list_any-append, flat_map-map, find-append, list_any_at}
 pub use Rattle.std.specs.List.{list_any, AllByRecursion, flat_map, find, cons_option, filter_map, join_with_byte, All, position_from}
 pub use Rattle.std.specs.Prelude.{map, ◌||◌, filter, ◌==◌, ◌&&◌, not, ⊤, unwrap_or, option_map, is_some, codes, fold, replicate, set}
 pub use Rattle.std.specs.Str.{bytes_eq}
@@ -33,7 +33,7 @@ pub use Rattle.krb_walk.specs.Rules.{Rules, PutGives}
 pub use Rattle.krb_copy.specs.DiffRows.{IsNumbering, shown, first_place, row_line, AreKeys, lacks, rows_due, to_key, marked, class_number, entry_of, row_due}
 pub use Rattle.std.proofs.lemmas.Slice.Eq.{bytes_eq-Decides}
 pub use Rattle.krb_names.proofs.NameOrder.{names_tie}
-pub use Rattle.krb_names.specs.Hash.{name_cmp}
+pub use Rattle.krb_names.specs.Hash.{name_cmp, hash_of}
 pub use Rattle.std.proofs.lemmas.Cmp.{nat_list_eq_equiv, nat_eq_equiv, on_equiv, and_equiv}
 pub use Rattle.krb_copy.specs.DiffLaws.{ReportsNothing, AreMirrored, NoDifference, swapped}
 pub use Rattle.krb_text.proofs.Found.{any_of_map}
@@ -51,3 +51,4 @@ pub use Rattle.krb_keytab.specs.Form.{IsEntry, read_back}
 pub use Rattle.krb_copy.specs.declared.diff.Keys.{Keys}
 pub use Rattle.std.specs.BTreeSet.{contains_by}
 pub use Rattle.std.specs.Option.{option_or}
+pub use Rattle.krb_names.proofs.Numbered.{number_test, position_at, number_is, position_any, numbers_next}

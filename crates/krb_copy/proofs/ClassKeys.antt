@@ -1,12 +1,11 @@
 -- Entries are twins iff their keys in a map compare equal.
-use Rattle.krb_copy.proofs.Cited.{◌≡◌, ℕ, ◌+◌, ◌<◌, Bool, true, cond, List, [], ◌∷◌, ◌++◌, length, None, refl, sym, ap, subst, ◌∙◌, arith, ◌&&◌, ◌==◌, map, bytes_eq, name_text, EntryParts, are_twins, ClassKey, ◌/◌, join_with_byte, eqb-true, eq-eqb, IsClassKey, name_cmp, emptiness, kind_of, bytes_eq-Decides, Parts, ok_is, names_tie}
+use Rattle.krb_copy.proofs.Cited.{◌≡◌, ℕ, ◌+◌, ◌<◌, Bool, true, cond, List, [], ◌∷◌, ◌++◌, length, None, refl, sym, ap, subst, ◌∙◌, arith, ◌&&◌, ◌==◌, map, bytes_eq, name_text, EntryParts, are_twins, ClassKey, ◌/◌, join_with_byte, eqb-true, eq-eqb, IsClassKey, name_cmp, emptiness, kind_of, bytes_eq-Decides, Parts, ok_is, names_tie, hash_of}
 use Rattle.std.specs.Ordering.{is_eq}
 use Rattle.std.proofs.lemmas.Bool.Decides.{nat_tests}
 use Rattle.krb_wire.specs.Names.{joined_components, quote, have_same_name}
 use Rattle.krb_wire.specs.NameOf.{name_of}
 use Rattle.krb_wire.proofs.NamesCompared.{same_name_is, and_both, both_and}
 use Rattle.krb_wire.proofs.RoundTrip.{name_of-name_text}
-use Rattle.krb_names.specs.Hash.{hash_of}
 
 -- the key that the fields of an entry have is that of the entry
 pub key_of_fields : (x fields : EntryParts) (name : List ℕ) (k : ClassKey) → fields ≡ x → name ≡ name_text x.principal → (name ≡ name_text fields.principal → IsClassKey fields k) → IsClassKey x k

@@ -1,7 +1,6 @@
 -- The keys of rows, one row after the other, and the marks of the classes that lack some.
-use Rattle.krb_copy.proofs.Cited.{◌≡◌, ℕ, ◌<◌, Bool, true, false, cond, List, [], ◌∷◌, ◌++◌, length, get_or, Some, None, refl, sym, ap, subst, ◌∙◌, arith, ◌||◌, ◌&&◌, ◌==◌, bytes_eq, list_any-append, eqb-true, ◌-◌, fold, replicate, set, All, contains_by, cases_lt, get_or-set_other, get_or-replicate, get_or_past, length-replicate, All-head, All-tail, find-append, or-false, Bor, Keys, Row}
+use Rattle.krb_copy.proofs.Cited.{◌≡◌, ℕ, ◌<◌, Bool, true, false, cond, List, [], ◌∷◌, ◌++◌, length, get_or, Some, None, refl, sym, ap, subst, ◌∙◌, arith, ◌||◌, ◌&&◌, ◌==◌, bytes_eq, list_any-append, eqb-true, ◌-◌, fold, replicate, set, All, contains_by, cases_lt, get_or-set_other, get_or-replicate, get_or_past, length-replicate, All-head, All-tail, find-append, or-false, Bor, Keys, Row, AreKeys, lacks, marked, to_key}
 use Rattle.std.proofs.lemmas.Grind.{common_steps}
-use Rattle.krb_copy.specs.DiffRows.{AreKeys, lacks, marked, to_key}
 
 -- ---- a list with one element set
 

@@ -1,9 +1,8 @@
 -- The lines of rows are those of differences.
-use Rattle.krb_copy.proofs.Cited.{◌≡◌, ℕ, ◌<◌, Bool, true, cond, List, [], ◌∷◌, ◌++◌, length, get_or, drop, Option, Some, None, refl, sym, ap, subst, ◌∙◌, arith, map, ◌||◌, ◌&&◌, not, ◌==◌, option_map, bytes_eq, list_any, flat_map, filter_map, find, EntryParts, PlacedEntry, are_twins, are_same, codes, All, AllByRecursion, flat_map-append, All-from_recursion, flat_map-map, placed_line, Keys, Row}
+use Rattle.krb_copy.proofs.Cited.{◌≡◌, ℕ, ◌<◌, Bool, true, cond, List, [], ◌∷◌, ◌++◌, length, get_or, drop, Option, Some, None, refl, sym, ap, subst, ◌∙◌, arith, map, ◌||◌, ◌&&◌, not, ◌==◌, option_map, bytes_eq, list_any, flat_map, filter_map, find, EntryParts, PlacedEntry, are_twins, are_same, codes, All, AllByRecursion, flat_map-append, All-from_recursion, flat_map-map, placed_line, Keys, Row, number_test, position_at}
 use Rattle.krb_copy.specs.Diff.{Difference, Theirs, diff_text, difference_at, difference_by, difference_line, firsts, has_more_keys, has_twin}
 use Rattle.krb_copy.specs.DiffRows.{AreKeys, class_number, entry_of, first_place, has_key, lacks, row_due, row_line, rows_due, shown}
 use Rattle.krb_copy.proofs.Alike.{alike, twins_equiv}
-use Rattle.krb_names.proofs.Numbered.{number_test, position_at}
 
 -- ---- classes have the same number iff their entries are twins
 

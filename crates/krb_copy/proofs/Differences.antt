@@ -3,7 +3,7 @@ use Rattle.krb_copy.proofs.Cited.{◌≡◌, Bool, true, false, cond, List, [], 
 use Rattle.std.specs.List.Sorted.{IsPermutation}
 use Rattle.std.proofs.lemmas.List.Sorted.{IsPermutation-append_comm, IsPermutation-append_left, IsPermutation-append_right, IsPermutation-refl, IsPermutation-trans, length_permutation}
 use Rattle.krb_copy.specs.Diff.{Difference, Both, Ours, Theirs, diff_text, difference_at, difference_line, differences, firsts, has_more_keys, has_twin}
-use Rattle.krb_copy.proofs.Passing.{any_found}
+use Rattle.krb_copy.proofs.Passing.{some_found}
 use Rattle.krb_copy.proofs.Alike.{twins_equiv, alike, same_are_twins}
 use Rattle.krb_copy.proofs.Silent.{HasAll, reported_nothing, reports_nothing}
 
@@ -61,8 +61,7 @@ module _ {D : Type 0} (d : PlacedEntry → Option D) where
     turned met xs (y ∷ ys) are = IsPermutation-trans _ _ _ (move met xs y ys are) (IsPermutation-append_right _ _ _ (turned (also met y) xs ys (also_classes met y are)))
 
     first_is : (o : Option D) (l : List D) → cons_option o [] ++ l ≡ [] → o ≡ None
-    first_is None l e = refl
-    first_is (Some x) l e = absurd cc
+    first_is o l e = grind (arith, e)
 
     -- if nothing is read, nothing is read of any entry
     pub none_read : (front : List PlacedEntry) (z : PlacedEntry) (back : List PlacedEntry) → filter_map d (firsts [] (front ++ z ∷ back)) ≡ [] → d z ≡ None
@@ -159,7 +158,7 @@ twin_there x ys (a ∷ xs) has e = elim (or_cases (are_twins x a.1) _ e) [
 ]
 
 any_twin : (ys : List PlacedEntry) (z : PlacedEntry) → has_twin z.1 ys ≡ is_some (twin_in ys z)
-any_twin ys z = any_found (λ y. are_twins z.1 y.1) ys
+any_twin ys z = sym (some_found (λ y. are_twins z.1 y.1) ys)
 
 no_class : (xs ys : List PlacedEntry) (z : PlacedEntry) → HasAll ys xs → HasAll xs ys → of_class xs ys z ≡ None
 no_class xs ys z has has_too =

@@ -1,5 +1,5 @@
 -- A pass over the entries of a keytab: those so far, and those still to come.
-use Rattle.krb_copy.proofs.Cited.{name_texts, versioned, renamed, EntryParts, Option, None, refl, asked_as, Some, AllByRecursion, ◌≡◌, ℕ, ◌+◌, ◌<◌, List, [], ◌∷◌, ◌++◌, length, take, sym, ap, ◌∙◌, append_assoc, map, name_text, PlacedEntry, AreClasses, ClassKey, as_found, AreTexts, entry_texts, get_or, map_push, take_more, flat_map-append, BTreeMap, Parts, Class}
+use Rattle.krb_copy.proofs.Cited.{name_texts, versioned, renamed, EntryParts, Option, None, refl, asked_as, Some, AllByRecursion, ◌≡◌, ℕ, ◌+◌, ◌<◌, List, [], ◌∷◌, ◌++◌, length, take, sym, ap, ◌∙◌, append_assoc, map, name_text, PlacedEntry, AreClasses, ClassKey, as_found, AreTexts, entry_texts, get_or, map_push, take_more, flat_map-append, BTreeMap, Parts, Class, arith}
 
 -- the texts of those so far were appended
 pub record AreAppended (all rest : List PlacedEntry) (bytes lens : List ℕ) : Type 0 where
@@ -10,13 +10,12 @@ pub record AreAppended (all rest : List PlacedEntry) (bytes lens : List ℕ) : T
 pub one_further : (all before rest next : List PlacedEntry) (x : PlacedEntry) → before ++ rest ≡ all → rest ≡ x ∷ next → (before ++ x ∷ []) ++ next ≡ all
 one_further all before rest next x parts steps = append_assoc before (x ∷ []) next ∙ ap (λ (xs : List PlacedEntry). before ++ xs) (sym steps) ∙ parts
 
-pub one_more : (xs : List PlacedEntry) (x : PlacedEntry) → entry_texts (xs ++ x ∷ []) ≡ entry_texts xs ++ name_text x.1.principal ∷ x.1.key ∷ []
-one_more xs x = flat_map-append (λ (y : PlacedEntry). name_text y.1.principal ∷ y.1.key ∷ []) xs (x ∷ [])
+pub texts_more : (xs : List PlacedEntry) (x : PlacedEntry) → entry_texts (xs ++ x ∷ []) ≡ entry_texts xs ++ name_text x.1.principal ∷ x.1.key ∷ []
+texts_more xs x = flat_map-append (λ (y : PlacedEntry). name_text y.1.principal ∷ y.1.key ∷ []) xs (x ∷ [])
 
 -- an entry keeps its name in another version
 pub same_name : (kvno : Option ℕ) (x : EntryParts) → (versioned kvno x).principal ≡ x.principal
-same_name None x = refl
-same_name (Some n) x = refl
+same_name kvno x = grind arith
 
 -- entries that are copied under their own names
 pub own_names : (kvno : Option ℕ) (xs : List PlacedEntry) → name_texts (asked_as (record { name = None; kvno = kvno }) xs) ≡ name_texts xs

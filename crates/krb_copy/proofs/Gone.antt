@@ -1,5 +1,5 @@
 -- After removals and an addition a keytab has no entry but those that were left and the new one.
-use Rattle.krb_copy.proofs.Cited.{◌≡◌, ℕ, Bool, true, false, cond, List, [], ◌∷◌, Option, Some, None, Result, Ok, Err, refl, sym, ap, ◌∙◌, inl, inr, map, filter, not, ◌==◌, ◌||◌, list_any, list_any-append, Code, EntryParts, PlacedEntry, placed_entries, KeytabState, entry_at_place, put_result, without, are_twins, Held, Run, as_found, as_copied, twins, with_copy, run_over, run_start, copy_run, is_some, eq-eqb, eqb-true, or_right, cut_store, entry_at, store_of, cut_result, with_hole, cut_gives, put_gives, removed_none, AreEntries, GoesByItsEntries, ◌>>=◌, IsEntry, fault_of, fault_from, live_bytes, cases_eq, or_cases, or_left, none-some, any_of_map}
+use Rattle.krb_copy.proofs.Cited.{◌≡◌, ℕ, Bool, true, false, cond, List, [], ◌∷◌, Option, Some, None, Result, Ok, Err, refl, sym, ap, ◌∙◌, inl, inr, map, filter, not, ◌==◌, ◌||◌, list_any, list_any-append, Code, EntryParts, PlacedEntry, placed_entries, KeytabState, entry_at_place, put_result, without, are_twins, Held, Run, as_found, as_copied, twins, with_copy, run_over, run_start, copy_run, is_some, eq-eqb, eqb-true, or_right, cut_store, entry_at, store_of, cut_result, with_hole, cut_gives, put_gives, removed_none, AreEntries, GoesByItsEntries, ◌>>=◌, IsEntry, fault_of, fault_from, live_bytes, cases_eq, or_cases, or_left, none-some, any_of_map, arith}
 use Rattle.krb_walk.specs.declared.refusal.Code.TheVariants as code
 use Rattle.krb_walk.specs.declared.fault.FaultKind.{FaultKind}
 use Rattle.krb_copy.proofs.Elsewhere.{any_entry, cut_apart, put_apart}
@@ -28,8 +28,7 @@ abbrev IsWhole : KeytabState → Type 0
 IsWhole k = is_some (fault_of (store_of k)) ≡ false
 
 kind_alone : (a b : ℕ) (kind : Option FaultKind) → is_some (fault_from a kind) ≡ is_some (fault_from b kind)
-kind_alone a b None = refl
-kind_alone a b (Some kind) = refl
+kind_alone a b kind = grind arith
 
 same_fault : (k : KeytabState) (p : ℕ) (given : Result KeytabState Code) → cut_result k p ≡ given → is_some (fault_of (store_of (cut_store k given))) ≡ is_some (fault_of (store_of k))
 same_fault k p (Err code) cut = refl
@@ -40,8 +39,7 @@ without_fault k [] = refl
 without_fault k (p ∷ ps) = without_fault (cut_store k (cut_result k p)) ps ∙ same_fault k p (cut_result k p) refl
 
 not_live : (k : KeytabState) (p : ℕ) (o : Option (List ℕ)) (refused : Code) → cond (is_some o) (Ok (with_hole k p)) (Err code.NotLive) ≡ Err refused → o ≡ None
-not_live k p None refused e = refl
-not_live k p (Some bytes) refused e = absurd cc
+not_live k p o refused e = grind (arith, e)
 
 -- where a record was removed no entry is
 cut_gone : (k : KeytabState) (p : ℕ) (e : EntryParts) (given : Result KeytabState Code) → IsWhole k → cut_result k p ≡ given → entry_at_place (cut_store k given) p ≡ Some e → ⊥

@@ -87,16 +87,12 @@ others_stay replace asked k run fits ran place e read others =
 abbrev pub AreSilent : Run → Run → Type 0
 AreSilent start run = run.text ≡ [] → (run.keytab ≡ start.keytab) × (has_lines run.clashes ≡ false) × (run.held ≡ start.held) × AllByRecursion (IsHeld start.held) run.before
 
-not_nil : (xs ys : List ℕ) (y : ℕ) → xs ++ y ∷ ys ≡ [] → ⊥
-not_nil [] ys y e = cc
-not_nil (x ∷ xs) ys y e = cc
-
 pub silent : (replace : Bool) (asked : List PlacedEntry) (k : KeytabState) (final : Run) → run_over replace asked (run_start k) ≡ Ok final → AreSilent (run_start k) final
 silent replace asked k final ran = kept_over replace (λ x. ⊤) (AreSilent (run_start k))
     (λ x run fits is e none. let s = is none in
     (s.0, s.1, s.2, all_join (IsHeld (run_start k).held) run.before (x.1 ∷ []) s.3 (subst (λ (held : List Held). IsHeld held x.1) s.2 (held_there replace run.before run.held x.1 e), tt)))
-    (λ x run twin fits is e none. absurd (not_nil run.text _ _ none))
-    (λ x run places given fits is e put none. absurd (not_nil (run.text ++ flat_map (λ p. removed_line (p, x.1)) places) _ _ (append_assoc run.text (flat_map (λ p. removed_line (p, x.1)) places) _ ∙ none)))
+    (λ x run twin fits is e none. absurd (both_ways _ (ap has_lines none) (has_more run.text _ _)))
+    (λ x run places given fits is e put none. absurd (both_ways _ (ap has_lines (append_assoc run.text (flat_map (λ p. removed_line (p, x.1)) places) _ ∙ none)) (has_more (run.text ++ flat_map (λ p. removed_line (p, x.1)) places) _ _)))
     asked (run_start k) final ran (recursion_from_All (λ x. ⊤) asked (λ i d lt. tt)) (λ none. (refl, refl, refl, tt))
 
 pub changes_are_reported : ChangesAreReported

@@ -1,8 +1,7 @@
 -- After a run nothing else is in the keytab than was there or is asked for.
-use Rattle.krb_copy.proofs.Cited.{◌≡◌, arith, ℕ, Bool, true, List, [], ◌∷◌, ◌++◌, Some, Ok, ◌∙◌, ◌==◌, map, AllByRecursion, list_any, list_any-append, EntryParts, PlacedEntry, placed_entries, KeytabState, entry_at_place, are_same, Held, Run, as_copied, as_found, copy_run, run_over, run_start, with_copy, eqb-true, or_right, or_left, get_or, NothingElse, All-filter, All-from_recursion, recursion_from_All, all_join}
+use Rattle.krb_copy.proofs.Cited.{◌≡◌, arith, ℕ, Bool, true, List, [], ◌∷◌, ◌++◌, Some, Ok, ◌∙◌, ◌==◌, map, AllByRecursion, list_any, list_any-append, EntryParts, PlacedEntry, placed_entries, KeytabState, entry_at_place, are_same, Held, Run, as_copied, as_found, copy_run, run_over, run_start, with_copy, eqb-true, or_right, or_left, get_or, NothingElse, All-filter, All-from_recursion, recursion_from_All, all_join, list_any_at}
 use Rattle.krb_copy.proofs.Alike.{same_equiv}
 use Rattle.krb_copy.proofs.Elsewhere.{all_mapped}
-use Rattle.std.proofs.lemmas.List.Folds.{list_any_at}
 use Rattle.krb_copy.proofs.Gone.{goes_by_its_entries}
 use Rattle.krb_copy.proofs.LawLemmas.{AreThere}
 use Rattle.krb_copy.proofs.RunSteps.{kept_over}

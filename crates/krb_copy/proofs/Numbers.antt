@@ -1,8 +1,7 @@
 -- The numbers of classes, one entry after the other.
-use Rattle.krb_copy.proofs.Cited.{◌≡◌, ℕ, ◌+◌, ◌<◌, List, [], ◌∷◌, ◌++◌, length, take, drop, get_or, Some, sym, ap, ◌∙◌, arith, map, not, ◌==◌, append_assoc, map_push, take_more, drop_more, eq-eqb, ne_eqb, PlacedEntry, are_twins, ClassKey, BTreeMap, IsClassKey, class_number, entry_of, row_due, rows_due, shown, Row}
+use Rattle.krb_copy.proofs.Cited.{◌≡◌, ℕ, ◌+◌, ◌<◌, List, [], ◌∷◌, ◌++◌, length, take, drop, get_or, Some, sym, ap, ◌∙◌, arith, map, not, ◌==◌, append_assoc, map_push, take_more, drop_more, eq-eqb, ne_eqb, PlacedEntry, are_twins, ClassKey, BTreeMap, IsClassKey, class_number, entry_of, row_due, rows_due, shown, Row, number_is, position_any, position_at}
 use Rattle.krb_copy.specs.Diff.{has_twin}
 use Rattle.krb_names.specs.Numbers.{AreNumbers, GetsNumber}
-use Rattle.krb_names.proofs.Numbered.{number_is, position_any, position_at}
 use Rattle.krb_copy.proofs.Alike.{twins_equiv}
 use Rattle.krb_copy.proofs.ClassKeys.{classes_agree}
 

@@ -11,6 +11,7 @@ pub any_either : {X : Type 0} (p q : X → Bool) (xs : List X) → list_any (λ 
 any_either p q [] = refl
 any_either p q (x ∷ xs) = grind (arith, any_either p q xs)
 
-pub any_found : {X : Type 0} (p : X → Bool) (xs : List X) → list_any p xs ≡ is_some (find p xs)
-any_found p [] = refl
-any_found p (x ∷ xs) = grind (arith, any_found p xs)
+-- one is found iff one passes
+pub some_found : {X : Type 0} (p : X → Bool) (xs : List X) → is_some (find p xs) ≡ list_any p xs
+some_found p [] = refl
+some_found p (x ∷ xs) = grind (arith, some_found p xs)

@@ -1,5 +1,5 @@
 -- A run and its definition, entry by entry.
-use Rattle.krb_copy.proofs.Cited.{◌≡◌, ℕ, ◌+◌, ◌<◌, Bool, true, false, cond, List, [], ◌∷◌, ◌++◌, length, drop, Result, Ok, Err, refl, sym, ap, subst, ◌∙◌, Code, PlacedEntry, KeytabState, put_result, without, Run, Copy, NewParts, asked_as, step_of, with_copy, run_after, run_added, has_lines, run_over, go_on, AreClasses, AreNames, get_or, drop_more, copied_lines, IsRefusal, IsRun, Meets, Ends, end_at, PutGives, Copying}
+use Rattle.krb_copy.proofs.Cited.{◌≡◌, ℕ, ◌+◌, ◌<◌, Bool, true, false, cond, List, [], ◌∷◌, ◌++◌, length, drop, Result, Ok, Err, refl, sym, ap, subst, ◌∙◌, Code, PlacedEntry, KeytabState, put_result, without, Run, Copy, NewParts, asked_as, step_of, with_copy, run_after, run_added, has_lines, run_over, go_on, AreClasses, AreNames, get_or, drop_more, copied_lines, IsRefusal, IsRun, Meets, Ends, end_at, PutGives, Copying, both_ways}
 use Rattle.krb_walk.specs.declared.refusal.Refusal.{Refusal}
 use Rattle.krb_walk.specs.declared.refusal.Refusal.TheVariants.{Code as ByCode, NoMemory}
 
@@ -50,9 +50,6 @@ one_met due replace x rest old new w meets replaces = record {
 pub all_met : {A : Type 0} (due : Result Run Code) (replace : Bool) (copying : Copying A) → IsOnTheWay due replace [] copying → Ends due (Ok tt) copying
 all_met due replace copying w = record { run = w.now; is_due = sym w.same; text_is = w.is_run.text; clashes_are = w.is_run.clashes; places_are = λ _. w.is_run.places; keytab_is = λ _. w.is_run.keytab }
 
-no_clash : {P : Type 0} (b : Bool) → b ≡ true → b ≡ false → P
-no_clash b t f = let clash : true ≡ false = sym t ∙ f in absurd cc
-
 ended_by : {A : Type 0} (due : Result Run Code) (now : Run) (code : Code) (b : Bool) (new : Copying A) → has_lines new.making.clashes.items ≡ b → cond (has_lines now.clashes) (Ok now) (Err code) ≡ due → new.making.text.items ≡ now.text → new.making.clashes.items ≡ now.clashes
     → Ends due (end_at b (ByCode code)) new
 ended_by due now code true new is same text clash =
@@ -62,8 +59,8 @@ ended_by due now code true new is same text clash =
       is_due = sym same ∙ ap (λ (b : Bool). cond b (Ok now) (Err code)) clashed;
       text_is = text;
       clashes_are = clash;
-      places_are = λ f. no_clash (has_lines now.clashes) clashed f;
-      keytab_is = λ f. no_clash (has_lines now.clashes) clashed f;
+      places_are = λ f. absurd (both_ways _ f clashed);
+      keytab_is = λ f. absurd (both_ways _ f clashed);
     }
 ended_by due now code false new is same text clash = sym same ∙ ap (λ (b : Bool). cond b (Ok now) (Err code)) (sym (ap has_lines clash) ∙ is)
 

@@ -1,6 +1,5 @@
 -- What was made of the files follows the plan.
-use Rattle.krb_driver.proofs.Cited.{◌≡◌, ◌⊎◌, inl, inr, ◌∙◌, ℕ, Bool, List, [], ◌∷◌, refl, sym, ap, subst, false≢true, true≢false, FairOver, GivesLoaded, GivesOf, HoldsIf, Makes, MakesFairly, Opens, fair_first, of_file, CommandPlan, Effect, Fails, IsMade, IsSpent, faults, goes_on, tries, opens, EndsAfter, Tries, effect_by, if_unread, Ghosts, FileName, Answer, Ends, HeldIf, Holds, Loaded, Loads, loaded-none}
-use Rattle.std.specs.Prelude.{Result, Ok, Err, is_ok}
+use Rattle.krb_driver.proofs.Cited.{arith, ◌≡◌, ◌⊎◌, inl, inr, ◌∙◌, ℕ, Bool, List, [], ◌∷◌, refl, sym, ap, subst, true≢false, FairOver, GivesLoaded, GivesOf, HoldsIf, Makes, MakesFairly, Opens, fair_first, of_file, CommandPlan, Effect, Fails, IsMade, IsSpent, faults, goes_on, tries, opens, EndsAfter, Tries, effect_by, Ghosts, FileName, Answer, Ends, HeldIf, Holds, Loaded, Loads, loaded-none, Result, Ok, Err, is_ok}
 use Rattle.krb_files.specs.declared.files.LoadFault.TheVariants as load
 use Rattle.krb_driver.specs.declared.error.RunError.{RunError}
 use Rattle.krb_driver.specs.declared.error.RunError.TheVariants as error
@@ -9,10 +8,6 @@ use Rattle.krb_driver.specs.declared.error.RunError.TheVariants as error
 abbrev pub no_file : {X : Type 0} → Result X (List ℕ × RunError) → Result X RunError
 no_file (Ok x) = Ok x
 no_file (Err met) = Err met.1
-
-abbrev name_in : {X : Type 0} → Result X (List ℕ × RunError) → List ℕ
-name_in (Ok x) = []
-name_in (Err met) = met.0
 
 -- the effect of an error
 abbrev fails_of : {X : Type 0} → Result X (List ℕ × RunError) → Effect
@@ -26,8 +21,7 @@ module _ {X : Type 0} (file : FileName) (then_ : X → CommandPlan) (fails : Run
   after (Err met) = fails met.1
 
   after-file : (given : Result X RunError) → after (of_file file given) ≡ goes_on file given then_ fails
-  after-file (Ok x) = refl
-  after-file (Err why) = refl
+  after-file given = grind arith
 
   -- the plan that loads a file whose name is of no other type
   abbrev loads : (Answer → Result X RunError) → CommandPlan
@@ -37,11 +31,7 @@ module _ {X : Type 0} (file : FileName) (then_ : X → CommandPlan) (fails : Run
     -- how a command that tried a file goes on
     by-loads : (answer : Answer) (rest : List Answer) → gives (Err load.Failed) ≡ Err error.FileNotRead → gives (Err load.NoMemory) ≡ Err error.NoMemory
         → effect_by (goes_on file (gives answer) then_ fails) rest ≡ effect_by (loads gives) (answer ∷ rest)
-    by-loads (Err load.Failed) rest failed spent =
-        subst (λ (g : Result X RunError). effect_by (goes_on file g then_ fails) rest ≡ if_unread file.name.now (goes_on file g then_ fails)) (sym failed) (ap (λ (p : CommandPlan). effect_by p rest) ends.unread)
-    by-loads (Err load.NoMemory) rest failed spent =
-        ap (λ (g : Result X RunError). effect_by (goes_on file g then_ fails) rest) spent ∙ ap (λ (p : CommandPlan). effect_by p rest) ends.spent
-    by-loads answer rest failed spent = refl
+    by-loads answer rest failed spent = grind (arith, failed, spent, ends.unread, ends.spent)
 
     module _ {F : Type 0} (trait : Ghosts F) (old : F) (given : Result X (List ℕ × RunError)) (effect : Effect) (between new : F) where
       after-spent : given ≡ Err (file.name.now, error.NoMemory) → after given ≡ Ends (Fails file.name.now error.NoMemory)
@@ -52,32 +42,17 @@ module _ {X : Type 0} (file : FileName) (then_ : X → CommandPlan) (fails : Run
 
       -- if memory ran out, nothing more was loaded
       none-loaded : (answers : List Answer) (plan : CommandPlan) → given ≡ Err (file.name.now, error.NoMemory) → Loaded trait (after given) between answers new → Loaded trait plan between answers new
-      none-loaded answers plan spent l =
-          let end = subst (λ (p : CommandPlan). Loaded trait p between answers new) (after-spent spent) l in
-          subst (λ (x : F). Loaded trait plan between answers x) (sym end.1) (subst (λ (xs : List Answer). Loaded trait plan between xs between) (sym end.0) (loaded-none trait faults plan between))
+      none-loaded answers plan spent l = grind (arith, after-spent spent, l, loaded-none trait faults plan between)
 
       -- a file was loaded, and this was made of what it gave
       makes-read : GivesLoaded trait old file gives given between → Makes trait between (after given) effect new → Makes trait old (loads gives) effect new
-      makes-read o m = record {
-        answers = o.answer ∷ m.answers;
-        loads = (
-          between,
-          (
-            o.loads,
-            elim o.given_is [
-              | inl spent ↦ none-loaded m.answers (goes_on file (gives o.answer) then_ fails) spent m.loads
-              | inr is ↦ subst (λ (p : CommandPlan). Loaded trait p between m.answers new) (after-given o.answer is) m.loads
-            ],
-          ),
-        );
-        made = elim m.made [
-          | inl spent ↦ inl spent
-          | inr made ↦ elim o.given_is [
-            | inl spent ↦ inl (file.name.now, made ∙ ap (λ (p : CommandPlan). effect_by p m.answers) (after-spent spent))
-            | inr is ↦ inr (made ∙ ap (λ (p : CommandPlan). effect_by p m.answers) (after-given o.answer is) ∙ by-loads o.answer m.answers o.failed o.spent)
-          ]
-        ];
-      }
+      makes-read o m =
+          let loads : Loaded trait (goes_on file (gives o.answer) then_ fails) between m.answers new = grind (arith, o.given_is, none-loaded, after-given o.answer, m.loads) in
+          record {
+            answers = o.answer ∷ m.answers;
+            loads = (between, (o.loads, loads));
+            made = grind (arith, m.made, o.given_is, after-spent, after-given o.answer, by-loads o.answer m.answers o.failed o.spent);
+          }
 
       makes-tried : GivesOf trait old file gives given between → Makes trait between (after given) effect new → Makes trait old (tries file gives then_ fails) effect new
       makes-tried (inl o) m = rw o.read (makes-read o m)
@@ -98,13 +73,9 @@ ends_by : (file : FileName) → EndsAfter file (fails_by file)
 ends_by file = record { spent = refl; unread = refl }
 
 -- an error has the name of the file
-name_of-file : {X : Type 0} (file : FileName) (met : List ℕ × RunError) (given : Result X RunError) → Err met ≡ of_file file given → met.0 ≡ file.name.now
-name_of-file file met (Ok x) is = absurd (false≢true (ap is_ok is))
-name_of-file file met (Err why) is = ap name_in is
-
 named-so : {F X : Type 0} (trait : Ghosts F) (old : F) (file : FileName) (gives : Answer → Result X RunError) (met : List ℕ × RunError) (new : F) → GivesOf trait old file gives (Err met) new → met.0 ≡ file.name.now
-named-so trait old file gives met new (inl o) = elim o.given_is [ inl spent ↦ ap name_in spent | inr is ↦ name_of-file file met (gives o.answer) is ]
-named-so trait old file gives met new (inr o) = ap name_in o.2
+named-so trait old file gives met new (inl o) = grind (arith, o.given_is)
+named-so trait old file gives met new (inr o) = grind (arith, o.2)
 
 -- what was made without a load
 pub makes-end : {F : Type 0} (trait : Ghosts F) (old : F) (due effect : Effect) → IsMade due effect → Makes trait old (Ends due) effect old
@@ -128,13 +99,10 @@ abbrev spent_file : {X : Type 0} → FileName → Result X (List ℕ × RunError
 spent_file file = Err (file.name.now, error.NoMemory)
 
 gave : {X : Type 0} (Fair : X → Type 0) (file : FileName) (x : X) (given : Result X RunError) → (Ok x ≡ spent_file {X = X} file) ⊎ (Ok x ≡ of_file file given) → Fair x → FairOver Fair given
-gave Fair file x given (inl spent) fair = absurd (true≢false (ap is_ok spent))
-gave {X = X} Fair file x (Ok y) (inr is) fair = subst (λ (r : Result X (List ℕ × RunError)). FairOver Fair (no_file r)) is fair
-gave Fair file x (Err why) (inr is) fair = tt
+gave Fair file x given is fair = grind (arith, is, fair)
 
 gave-none : {X : Type 0} (Fair : X → Type 0) (file : FileName) (name : List ℕ) (why : RunError) (given : Result X RunError) → Err (name, why) ≡ of_file file given → FairOver Fair given
-gave-none Fair file name why (Ok x) is = absurd (false≢true (ap is_ok is))
-gave-none Fair file name why (Err e) is = tt
+gave-none Fair file name why given is = grind (arith, is)
 
 -- of what was opened the due effect was made, and `Fair` holds of it
 pub makes-fairly : {F X : Type 0} (trait : Ghosts F) (old : F) (file : FileName) (gives : Answer → Result X RunError) (due : X → Effect) (Fair : X → Type 0) (x : X) (effect : Effect) (new : F)

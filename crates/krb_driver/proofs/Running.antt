@@ -1,6 +1,5 @@
 -- What a run of a command keeps.
-use Rattle.krb_driver.proofs.Cited.{◌≡◌, ◌⊎◌, inl, inr, ◌∙◌, ℕ, ◌≤◌, Bool, true, false, List, [], refl, sym, ap, subst, arith, false≢true, Watch, ErrorWatch, Run, Shows, ends_by, EndsCommand, Finishes, Keeps, MakesFairly, Settles, ShowsEnd, ShowsPage, Takes, CommandPlan, Displays, Effect, Fails, IsSpent, Page, Saves, faults, files_after, saved_end, settled, text, effect_by, if_unread, ending_of, if◌then◌else◌, ◌∷◌, or_left, or_right, Ghosts, Answer, SavesFile, TurnsHold, Ending, is_spent, is_unread, RunEnd, Verdict, Ends, Holds, Loads, Loaded, Faults, by, follow, Lasts, comes, count-more, count-trans, loaded-lasts, same-trans, with_bytes-set}
-use Rattle.std.specs.Prelude.{Option, None, Result, Ok, Err, IsTrue, ◌||◌}
+use Rattle.krb_driver.proofs.Cited.{◌≡◌, ◌⊎◌, inl, inr, ◌∙◌, ℕ, ◌≤◌, Bool, List, [], refl, sym, ap, subst, arith, Watch, ErrorWatch, Run, Shows, ends_by, EndsCommand, Finishes, Keeps, MakesFairly, Settles, ShowsEnd, ShowsPage, Takes, CommandPlan, Displays, Effect, Fails, IsSpent, Page, Saves, faults, files_after, saved_end, settled, text, effect_by, if_unread, ending_of, if◌then◌else◌, ◌∷◌, or_left, or_right, Ghosts, Answer, SavesFile, TurnsHold, Ending, is_spent, is_unread, RunEnd, Verdict, Ends, Holds, Loads, Loaded, Faults, by, follow, Lasts, comes, count-more, count-trans, loaded-lasts, same-trans, with_bytes-set, Option, None, Result, Ok, Err, IsTrue, ◌||◌}
 use Rattle.krb_files.specs.declared.files.SaveFault.{SaveFault}
 use Rattle.krb_files.specs.declared.files.SaveFault.TheVariants as save
 use Rattle.krb_files.specs.declared.files.LoadFault.TheVariants as load
@@ -11,13 +10,11 @@ use Rattle.krb_driver.specs.declared.command.World.{World}
 module _ (out out' : Watch) (ending : Ending) (spent : ending ≡ Err error.NoMemory) where
   -- the output did not fail, so the run was to end out of memory
   due-spent : (failed : Bool) → failed ≡ out'.failed → (due : Run) → Shows due out out' ending → due.ending ≡ Err error.NoMemory
-  due-spent true is due shows = absurd (false≢true (ap is_spent (sym (shows.failed (sym is)) ∙ spent)))
-  due-spent false is due shows = sym ((shows.done (sym is)).1) ∙ spent
+  due-spent failed is due shows = grind (arith, is, shows.failed, shows.done, spent)
 
   -- only a page that takes memory, or reports that it ran out, ends out of memory
   page-takes : (page : Page) → ShowsPage out out' ending page → IsTrue (page.takes || is_spent page.ending)
-  page-takes page (inl shows) = or_right page.takes (is_spent page.ending) (ap is_spent (due-spent out'.failed refl (record { out = page.out; ending = page.ending }) shows))
-  page-takes page (inr breaks) = or_left page.takes (is_spent page.ending) breaks.0
+  page-takes page shows = grind (arith, shows, due-spent out'.failed refl, or_left, or_right)
 
   pub quiet-end : (end : Effect) → ShowsEnd out out' ending end → Shows (ends_by error.NoMemory) out out' ending ⊎ Takes end
   quiet-end (Fails file why) shows =
@@ -29,13 +26,10 @@ module _ (out out' : Watch) (ending : Ending) (spent : ending ≡ Err error.NoMe
   module _ {F : Type 0} (trait : Ghosts F) (old new : F) (h : trait.is_honest old) where
     saved-spared : (file bytes text : List ℕ) (verdict : Verdict) (answer : Result (Unit {0}) SaveFault) (end : Effect) → SavesFile trait old file bytes answer new → end ≡ saved_end file text verdict answer → ShowsEnd out out' ending end
         → SameFiles (trait.file old) (trait.file new)
-    saved-spared file bytes text_ verdict (Ok done) end saves is shows = absurd (false≢true (page-takes (text text_ verdict) (subst (ShowsEnd out out' ending) is shows)))
-    saved-spared file bytes text_ verdict (Err fault) end saves is shows = saves.same h
+    saved-spared file bytes text_ verdict answer end saves is shows = grind (arith, is, page-takes, shows, saves.same h)
 
     pub settles-spared : (effect end : Effect) → Settles trait old effect new end → ShowsEnd out out' ending end → SameFiles (trait.file old) (trait.file new)
-    settles-spared (Fails file why) end s shows = subst (λ (x : F). SameFiles (trait.file old) (trait.file x)) (sym s.0) (λ name. refl)
-    settles-spared (Displays file page) end s shows = subst (λ (x : F). SameFiles (trait.file old) (trait.file x)) (sym s.0) (λ name. refl)
-    settles-spared (Saves file bytes text verdict) end s shows = saved-spared file bytes text verdict s.0 end s.1.0 s.1.1 shows
+    settles-spared effect end s shows = grind (arith, s, shows, saved-spared)
 
 module _ {F O : Type 0} (trait : Ghosts F) (outcomes : Faults O) (due : Effect) (old between new : F) (h : trait.is_honest old) (lasts : Lasts trait outcomes old between) where
   same-then : new ≡ between → SameFiles (trait.file old) (trait.file new)
@@ -48,16 +42,11 @@ module _ {F O : Type 0} (trait : Ghosts F) (outcomes : Faults O) (due : Effect) 
   IsUnread effect = CountsFailure (trait.failure_count old) (trait.failure_count between) × IsTrue (is_unread (ending_of effect))
 
   keeps-reported : (effect left : Effect) → new ≡ between → left ≡ effect → IsUnread effect → Keeps trait due old new left
-  keeps-reported effect left same is unread = inr (inl (
-    subst (λ (x : F). CountsFailure (trait.failure_count old) (trait.failure_count x)) (sym same) unread.0,
-    (same-then same, inl (ap (λ (e : Effect). is_unread (ending_of e)) is ∙ unread.1)),
-  ))
+  keeps-reported effect left same is unread = grind (arith, same, is, unread, same-then)
 
   -- a file was not read, and the effect reports that
   keeps-unread : (effect left : Effect) → Settles trait between effect new left → IsUnread effect → Keeps trait due old new left
-  keeps-unread (Fails file why) left s unread = keeps-reported (Fails file why) left s.0 s.1 unread
-  keeps-unread (Displays file page) left s unread = keeps-reported (Displays file page) left s.0 s.1 unread
-  keeps-unread (Saves file bytes text verdict) left s unread = absurd (false≢true unread.1)
+  keeps-unread effect left s unread = grind (arith, keeps-reported, s, unread)
 
   keeps-saved : (file bytes text : List ℕ) (verdict : Verdict) (answer : Result (Unit {0}) SaveFault) (left : Effect) → Saves file bytes text verdict ≡ due → SavesFile trait between file bytes answer new
       → left ≡ saved_end file text verdict answer → Keeps trait due old new left
@@ -72,9 +61,7 @@ module _ {F O : Type 0} (trait : Ghosts F) (outcomes : Faults O) (due : Effect) 
   keeps-saved file bytes text verdict (Err save.NoMemory) left is_due saves is = inr (inr (same-trans (trait.file old) (trait.file between) (trait.file new) (lasts.same h) (saves.same (lasts.honest h)), (file, is)))
 
   keeps-due : (effect left : Effect) → effect ≡ due → Settles trait between effect new left → Keeps trait due old new left
-  keeps-due (Fails file why) left is_due s = inl (s.1 ∙ ap settled is_due, subst (λ (d : Effect). SameFiles (files_after (trait.file old) d) (trait.file new)) is_due (same-then s.0))
-  keeps-due (Displays file page) left is_due s = inl (s.1 ∙ ap settled is_due, subst (λ (d : Effect). SameFiles (files_after (trait.file old) d) (trait.file new)) is_due (same-then s.0))
-  keeps-due (Saves file bytes text verdict) left is_due s = keeps-saved file bytes text verdict s.0 left is_due s.1.0 s.1.1
+  keeps-due effect left is_due s = grind (arith, s, is_due, same-then, keeps-saved)
 
   -- an effect is what is due; or a call failed, counted; or memory ran out
   abbrev pub IsDue : Effect → Type 0
@@ -87,11 +74,7 @@ module _ {F O : Type 0} (trait : Ghosts F) (outcomes : Faults O) (due : Effect) 
 
 -- the release of the files keeps what was done
 keeps-left : {F : Type 0} (trait : Ghosts F) (due : Effect) (old done new : F) (left : Effect) → TurnsHold trait None done new → Keeps trait due old done left → Keeps trait due old new left
-keeps-left trait due old done new left turns (inl is) = inl (is.0, same-trans (files_after (trait.file old) due) (trait.file done) (trait.file new) is.1 turns.same)
-keeps-left trait due old done new left turns (inr (inl failed)) =
-    let counted = count-more (trait.failure_count old) (trait.failure_count done) (trait.failure_count new) (omega (arith, turns.count)) failed.0 in
-    inr (inl (counted, (same-trans (trait.file old) (trait.file done) (trait.file new) failed.1.0 turns.same, failed.1.1)))
-keeps-left trait due old done new left turns (inr (inr spent)) = inr (inr (same-trans (trait.file old) (trait.file done) (trait.file new) spent.0 turns.same, spent.1))
+keeps-left trait due old done new left turns kept = grind (arith, kept, turns.same, turns.count, same-trans, count-more)
 
 module _ {F O : Type 0} (trait : Ghosts F) (outcomes : Faults O) (line : Option ℕ) (due effect : Effect) (old mid new : F) (out out' : Watch) (err err' : ErrorWatch) (end : RunEnd) (f : Finishes trait line effect mid new out out' err err' end) where
   -- what was made of honest files was done with them
@@ -99,9 +82,7 @@ module _ {F O : Type 0} (trait : Ghosts F) (outcomes : Faults O) (line : Option 
   finishes-keeps h lasts is = keeps-left trait due old f.done new f.left f.released (keeps-by trait outcomes due old mid f.done h lasts effect f.left f.settles is)
 
   settles-lasts : (effect : Effect) → Settles trait mid effect f.done f.left → (trait.is_honest mid → trait.is_honest f.done) × (trait.failure_count mid ≤ trait.failure_count f.done)
-  settles-lasts (Fails file why) s = subst (λ (x : F). (trait.is_honest mid → trait.is_honest x) × (trait.failure_count mid ≤ trait.failure_count x)) (sym s.0) (λ h. h, omega arith)
-  settles-lasts (Displays file page) s = subst (λ (x : F). (trait.is_honest mid → trait.is_honest x) × (trait.failure_count mid ≤ trait.failure_count x)) (sym s.0) (λ h. h, omega arith)
-  settles-lasts (Saves file bytes text verdict) s = (s.1.0.honest, s.1.0.count)
+  settles-lasts effect s = grind (arith, s)
 
   -- honest files stay honest, and the count of failures never falls
   pub finishes-lasts : (trait.is_honest mid → trait.is_honest new) × (trait.failure_count mid ≤ trait.failure_count new)
@@ -112,14 +93,11 @@ module _ {F O : Type 0} (trait : Ghosts F) (outcomes : Faults O) (line : Option 
 -- ---- a file that was not read
 
 unread-as : (name : List ℕ) (effect : Effect) (is : Bool) → is_unread (ending_of effect) ≡ is → IsTrue (is_unread (ending_of (if is then effect else Fails name error.FileNotRead)))
-unread-as name effect true e = e
-unread-as name effect false e = refl
+unread-as name effect is e = grind (arith, e)
 
 -- the effect reports that the file was not read
 if_unread-reports : (name : List ℕ) (plan : CommandPlan) → IsTrue (is_unread (ending_of (if_unread name plan)))
-if_unread-reports name (Ends effect) = unread-as name effect (is_unread (ending_of effect)) refl
-if_unread-reports name (Holds held other plan) = refl
-if_unread-reports name (Loads other then_) = refl
+if_unread-reports name plan = grind (arith, unread-as)
 
 effect_by-none : (plan : CommandPlan) → effect_by plan [] ≡ by faults plan []
 effect_by-none (Ends effect) = refl
@@ -132,9 +110,9 @@ module _ {F : Type 0} (trait : Ghosts F) where
   IsBy plan answers old new = (effect_by plan answers ≡ by faults plan answers) ⊎ (CountsFailure (trait.failure_count old) (trait.failure_count new) × IsTrue (is_unread (ending_of (effect_by plan answers))))
 
   later : (plan : CommandPlan) (answers : List Answer) (old between new : F) → Loaded trait plan between answers new → trait.failure_count old ≤ trait.failure_count between → IsBy plan answers between new → IsBy plan answers old new
-  later plan answers old between new l le (inl is) = inl is
-  later plan answers old between new l le (inr unread) =
-      inr (count-trans (trait.failure_count old) (trait.failure_count between) (trait.failure_count new) le (loaded-lasts trait faults plan between answers new l).count unread.0, unread.1)
+  later plan answers old between new l le by =
+      let lasts = loaded-lasts trait faults plan between answers new l in
+      grind (arith, by, le, lasts.count, count-trans)
 
   is-by : (plan : CommandPlan) (old : F) (answers : List Answer) (new : F) → Loaded trait plan old answers new → IsBy plan answers old new
   is-by (Ends effect) old answers new l = inl refl
@@ -159,13 +137,9 @@ module _ {F R W E : Type 0} (trait : Ghosts F) (plan : Option ℕ → CommandPla
 
   -- over honest files a command makes what is due, or a call failed, or memory ran out
   is-due : (h : trait.is_honest old.files) → effect ≡ by faults (plan (trait.mode made)) makes.makes.answers → IsDue trait faults due old.files made f.done h lasts effect
-  is-due h is = elim (comes trait faults (plan (trait.mode made)) (trait.file old.files) old.files makes.makes.answers made h (λ name. refl) makes.makes.loads) [
-    | inl due ↦ inl (is ∙ due)
-    | inr other ↦ elim other [
-      | inl failed ↦ inr (inl (failed.0, (failed.1.0, is ∙ failed.1.1)))
-      | inr spent ↦ inr (inr (spent.0, is ∙ spent.1))
-    ]
-  ]
+  is-due h is =
+      let outcome = comes trait faults (plan (trait.mode made)) (trait.file old.files) old.files makes.makes.answers made h (λ name. refl) makes.makes.loads in
+      grind (arith, is, outcome)
 
   keeps : (h : trait.is_honest old.files) → Keeps trait due old.files new.files f.left
   keeps h =
@@ -179,8 +153,8 @@ module _ {F R W E : Type 0} (trait : Ghosts F) (plan : Option ℕ → CommandPla
         ]
       ]
 
-  pub ends-finished : EndsCommand trait plan Fairly old new end
-  ends-finished = record {
+  pub ends_finished : EndsCommand trait plan Fairly old new end
+  ends_finished = record {
     effect = effect;
     made = made;
     makes = makes;

@@ -6,8 +6,8 @@ use Rattle.std.proofs.lemmas.Option.{slice_get-map}
 use Rattle.std.specs.Str.Pattern.{FindsTextPrefix, StripsPrefix}
 
 -- a bad command line is reported without words
-pub Writes-alone : (err : ErrorWatch) (to : Watch) (line : BadLine) → err.explains ≡ false → Writes err.to to (message (codes "bad command line") ++ []) → Writes err.to to (word_text err.explains (word.BadLine line))
-Writes-alone err to line hides other = subst (λ (b : Bool). Writes err.to to (word_text b (word.BadLine line))) (sym hides) other
+pub writes_alone : (err : ErrorWatch) (to : Watch) (line : BadLine) → err.explains ≡ false → Writes err.to to (message (codes "bad command line") ++ []) → Writes err.to to (word_text err.explains (word.BadLine line))
+writes_alone err to line hides other = subst (λ (b : Bool). Writes err.to to (word_text b (word.BadLine line))) (sym hides) other
 
 -- ---- words and their texts
 
@@ -22,7 +22,7 @@ first_word words = slice_get-map (λ w. w.now) words 0
 -- a word that begins with the prefix
 stripped-some : (prefix rest : List ℕ) → stripped prefix (prefix ++ rest) ≡ Some rest
 stripped-some [] rest = refl
-stripped-some (p ∷ ps) rest = ap (λ (b : Bool). cond b (stripped ps (ps ++ rest)) None) (eq-eqb p p refl) ∙ stripped-some ps rest
+stripped-some (p ∷ ps) rest = grind (arith, eq-eqb p p refl, stripped-some ps rest)
 
 stripped-next : (b p : ℕ) (bs ps : List ℕ) (same : Bool) → eqb b p ≡ same → ((rest : List ℕ) → b ∷ bs ≢ p ∷ ps ++ rest) → (((rest : List ℕ) → bs ≢ ps ++ rest) → stripped ps bs ≡ None)
     → cond same (stripped ps bs) None ≡ None
@@ -46,10 +46,6 @@ strips prefix word (Some x) found =
 
 -- ---- where in a word what may be a key begins
 
--- where it begins in a word that is not empty
-key_from-cons : (can_begin : Bool) (b : ℕ) (bs : List ℕ) (is : Bool) → (can_begin && may_be_key (b ∷ bs)) ≡ is → key_from can_begin (b ∷ bs) ≡ (if is then 0 else 1 + key_from (b == 61) bs)
-key_from-cons can_begin b bs is e = ap (λ (x : Bool). if x then 0 else 1 + key_from (b == 61) bs) e
-
 module _ (word : List ℕ) (i : ℕ) (can_begin : Bool) (before : key_start word ≡ i + key_from can_begin (drop i word)) where
   -- the part of a word from there on is the word without what comes before
   abbrev pub part : List ℕ
@@ -61,24 +57,24 @@ module _ (word : List ℕ) (i : ℕ) (can_begin : Bool) (before : key_start word
       let b = get_or word i 0 in
       let cons : drop i word ≡ b ∷ bs = drop_more word i 0 at in
       let all : part ≡ drop i word = take_all (length word - i) (drop i word) (omega (arith, length-drop i word)) in
-      ap (key_from can_begin) cons ∙ key_from-cons can_begin b bs is (ap (λ (w : List ℕ). can_begin && may_be_key w) (sym cons) ∙ ap (λ (w : List ℕ). can_begin && may_be_key w) (sym all) ∙ e)
+      grind (arith, cons, all, e)
 
   -- it begins here
-  pub key-here : i < length word → (can_begin && may_be_key part) ≡ true → i ≡ key_start word
-  key-here at is =
+  pub key_here : i < length word → (can_begin && may_be_key part) ≡ true → i ≡ key_start word
+  key_here at is =
       omega (arith, before, key_from-part at true is)
 
   -- it begins later, if at all
-  pub key-later : i < length word → (can_begin && may_be_key part) ≡ false → key_start word ≡ (i + 1) + key_from (get_or word i 0 == 61) (drop (i + 1) word)
-  key-later at is =
+  pub key_later : i < length word → (can_begin && may_be_key part) ≡ false → key_start word ≡ (i + 1) + key_from (get_or word i 0 == 61) (drop (i + 1) word)
+  key_later at is =
       omega (arith, before, key_from-part at false is)
 
   -- it begins nowhere
-  pub key-nowhere : length word ≤ i → i ≤ length word → length word ≡ key_start word
-  key-nowhere past within =
+  pub key_nowhere : length word ≤ i → i ≤ length word → length word ≡ key_start word
+  key_nowhere past within =
       let none : key_from can_begin (drop i word) ≡ 0 = ap (key_from can_begin) (drop_all i word past) in
       omega (arith, before, none, past, within)
 
 -- what may be a key is not shown
-pub quoted-hidden : (word : List ℕ) → has_key word ≡ true → quoted_word word ≡ hidden_word
-quoted-hidden word is = ap (λ (hides : Bool). if hides then hidden_word else codes "\"" ++ (flat_map shown_byte word ++ codes "\"")) is
+pub quoted_hidden : (word : List ℕ) → has_key word ≡ true → quoted_word word ≡ hidden_word
+quoted_hidden word is = ap (λ (hides : Bool). if hides then hidden_word else codes "\"" ++ (flat_map shown_byte word ++ codes "\"")) is

@@ -82,6 +82,7 @@ fn has_type(word: &[u8]) -> bool
 }
 
 // Returns a word without that prefix, if it begins with it.
+#[tactic(auto, using(crate::proofs::Words::strips))]
 fn stripped<'a>(word: &'a str, prefix: &str) -> Option<&'a str>
     ensures { option_map (λ rest. rest.now) result ≡ stripped prefix.now word.now }
 {

@@ -1,13 +1,10 @@
 -- The places of live cells and of added entries, in lists and in sets.
-use Rattle.krb_editors.proofs.Cited.{◌≡◌, ◌≢◌, ℕ, ◌<◌, ◌≤◌, true, List, [], ◌∷◌, map, Option, Some, None, refl, ap, arith, Store, Record, IsSound, end_of, is_place, next_live, stop_at, stop_of, zero, suc, Bool, false, ◌++◌, length, get_or, sym, ◌∙◌, subst, list_any, Event, carry, nth_or, ReplyContent, Started, Gave, Ended, Faulted, Placed, Gone, Rewritten, Refused, Rules, SessionState, after, history, moment, state_after, KeytabState, HaveSame, followed_past, followed_over, places_after, records_from, stops_end, stops_give_records, IsNonDecreasing, Rises, eq-eqb, eqb-true, any_of_map, hidden_at, hidden_from, hides_added}
+use Rattle.krb_editors.proofs.Cited.{◌≡◌, ◌≢◌, ℕ, ◌<◌, ◌≤◌, true, List, [], ◌∷◌, map, Option, Some, None, refl, ap, arith, Store, Record, IsSound, end_of, is_place, next_live, stop_at, stop_of, zero, suc, Bool, false, ◌++◌, length, get_or, sym, ◌∙◌, subst, list_any, Event, nth_or, ReplyContent, Rules, SessionState, after, history, moment, state_after, KeytabState, HaveSame, followed_past, followed_over, places_after, records_from, stops_end, stops_give_records, IsNonDecreasing, Rises, eq-eqb, eqb-true, any_of_map, hidden_at, hidden_from, hides_added, ◌||◌, ◌&&◌, ◌==◌, not, filter, nat_lt, cond, option_and_then}
 use Rattle.krb_walk.specs.declared.stop.Stop.TheVariants.{Live}
 use Rattle.krb_walk.proofs.Cells.{stops_live}
-use Rattle.std.specs.Prelude.{◌||◌, ◌&&◌, ◌==◌, not, filter, nat_le, nat_lt, cond, if◌then◌else◌, option_and_then}
-use Rattle.std.specs.Ordering.{nat_cmp, is_eq}
-use Rattle.std.specs.declared.cmp.Ordering.TheVariants.{Less, Equal, Greater}
+use Rattle.std.specs.Ordering.{nat_cmp}
 use Rattle.std.specs.BTreeMap.{is_at}
 use Rattle.std.proofs.lemmas.Bool.Decides.{nat_tests}
-use Rattle.std.proofs.Math.Bool.{or_assoc}
 use Rattle.std.proofs.lemmas.List.Folds.{Any-from_list_any, list_any-append, list_any-from_Any}
 use Rattle.std.proofs.lemmas.Map.Views.{any-filter_same}
 use Rattle.std.specs.Cmp.{both_ways}
@@ -53,13 +50,9 @@ same_trans xs ys zs h k = record { finds = λ test. h.finds test ∙ k.finds tes
 pub same_map : (f : ℕ → ℕ) (xs ys : List ℕ) → HaveSame xs ys → HaveSame (map f xs) (map f ys)
 same_map f xs ys h = record { finds = λ test. any_of_map test f xs ∙ h.finds (λ x. test (f x)) ∙ sym (any_of_map test f ys) }
 
-any_kept : (test : ℕ → Bool) (x : ℕ) (b : Bool) (kept : List ℕ) (others : Bool) → list_any test kept ≡ others → list_any test (cond b (x ∷ kept) kept) ≡ (b && test x) || others
-any_kept test x true kept others is = ap (λ (c : Bool). test x || c) is
-any_kept test x false kept others is = is
-
 any_filter : (keep test : ℕ → Bool) (xs : List ℕ) → list_any test (filter keep xs) ≡ list_any (λ x. keep x && test x) xs
 any_filter keep test [] = refl
-any_filter keep test (x ∷ xs) = any_kept test x (keep x) (filter keep xs) (list_any (λ x. keep x && test x) xs) (any_filter keep test xs)
+any_filter keep test (x ∷ xs) = grind (arith, any_filter keep test xs)
 
 same_filter : (keep : ℕ → Bool) (xs ys : List ℕ) → HaveSame xs ys → HaveSame (filter keep xs) (filter keep ys)
 same_filter keep xs ys h = record { finds = λ test. any_filter keep test xs ∙ h.finds (λ x. keep x && test x) ∙ sym (any_filter keep test ys) }
@@ -69,18 +62,10 @@ same_cons p xs ys h = record { finds = λ test. ap (λ (b : Bool). test p || b) 
 
 -- places that are the same are the same after a reply
 pub same_after : (old new : Store) (reply : ReplyContent) (xs ys : List ℕ) → HaveSame xs ys → HaveSame (places_after old new reply xs) (places_after old new reply ys)
-same_after old new (Placed p) xs ys h = same_cons p xs ys h
-same_after old new (Gone p) xs ys h = same_filter (λ q. not (q == p)) xs ys h
-same_after old new (Rewritten end) xs ys h = same_map (carry old new) xs ys h
-same_after old new (Started w n) xs ys h = h
-same_after old new (Gave w p n bytes) xs ys h = h
-same_after old new (Ended w n) xs ys h = h
-same_after old new (Faulted w f) xs ys h = h
-same_after old new (Refused c) xs ys h = h
+same_after old new reply xs ys h = grind (arith, same_cons, same_filter, same_map, h)
 
 hides_by : (xs ys : List ℕ) (from : Option ℕ) → HaveSame xs ys → option_and_then (hidden_at xs) from ≡ option_and_then (hidden_at ys) from
-hides_by xs ys None h = refl
-hides_by xs ys (Some from) h = ap (λ (b : Bool). if b then Some from else None) (h.finds (nat_le from))
+hides_by xs ys from h = grind (arith, h.finds)
 
 -- places that are the same hide the same
 pub hides_same : (k : KeytabState) (xs ys : List ℕ) → HaveSame xs ys → hides_added k xs ≡ hides_added k ys
@@ -137,20 +122,9 @@ rises-non_decreasing lo end (x ∷ xs) h (suc i) (suc j) d le lt = rises-non_dec
 
 -- ---- sets
 
-or_swap : (a b c : Bool) → a || (b || c) ≡ b || (a || c)
-or_swap true true c = refl
-or_swap true false c = refl
-or_swap false b c = refl
-
-is_at-eq_by : (q x : ℕ) (lt same : Bool) → nat_lt q x ≡ lt → (q == x) ≡ same → is_eq (cond lt Less (cond same Equal Greater)) ≡ same
-is_at-eq_by q x true true e f = absurd (grind (arith, nat_tests))
-is_at-eq_by q x true false e f = refl
-is_at-eq_by q x false true e f = refl
-is_at-eq_by q x false false e f = refl
-
 -- a key is found by equality
 is_at-eq : (q x : ℕ) → is_at (nat_cmp q) x ≡ (q == x)
-is_at-eq q x = is_at-eq_by q x (nat_lt q x) (q == x) refl refl
+is_at-eq q x = grind (arith, nat_tests)
 
 -- a list has a number
 abbrev has : ℕ → List ℕ → Bool
@@ -171,8 +145,7 @@ pub same_from_has : (xs ys : List ℕ) → ((q : ℕ) → has q xs ≡ has q ys)
 same_from_has xs ys each = record { finds = λ test. both_ways (list_any test xs) (list_any test ys) (finds_in xs ys each test) (finds_in ys xs (λ q. sym (each q)) test) }
 
 cond_not : (b c : Bool) → cond b false c ≡ (not b && c)
-cond_not true c = refl
-cond_not false c = refl
+cond_not b c = grind arith
 
 -- what passes the test for q is another number than p, or not, as q is
 apart : (p q k : ℕ) → is_at (nat_cmp q) k ≡ true → not (k == p) ≡ not (p == q)
@@ -186,8 +159,7 @@ same_removed p old new each =
     ∙ sym (any-filter_same (is_at (nat_cmp q)) (λ x. not (x == p)) (not (p == q)) (apart p q) old))
 
 cond_or : (b c : Bool) → cond b true c ≡ b || c
-cond_or true c = refl
-cond_or false c = refl
+cond_or b c = grind arith
 
 -- the same test, the other way
 is_at-sym : (p q : ℕ) → is_at (nat_cmp p) q ≡ is_at (nat_cmp q) p
@@ -201,8 +173,4 @@ same_inserted p old new each = same_from_has new (p ∷ old) (λ q. each q ∙ a
 
 -- one more was carried
 pub same_turned : (new xs ys : List ℕ) (k : ℕ) → HaveSame new (k ∷ xs) → HaveSame (new ++ ys) (xs ++ k ∷ ys)
-same_turned new xs ys k h = record {
-  finds = λ test.
-      list_any-append test new ys ∙ ap (λ (b : Bool). b || list_any test ys) (h.finds test)
-      ∙ or_assoc (test k) (list_any test xs) (list_any test ys) ∙ or_swap (test k) (list_any test xs) (list_any test ys) ∙ sym (list_any-append test xs (k ∷ ys));
-}
+same_turned new xs ys k h = record { finds = λ test. grind (arith, list_any-append test new ys, list_any-append test xs (k ∷ ys), h.finds test) }

@@ -1,8 +1,7 @@
 -- Copying from a keytab.
-use Rattle.krb_editors.proofs.Cited.{◌≡◌, true, List, [], inl, inr, refl, Makes, CommandPlan, Effect, Fails, IsSpent, faults, makes-end, Ghosts, NothingToCopy, FileName}
+use Rattle.krb_editors.proofs.Cited.{◌≡◌, true, List, [], inl, inr, refl, Makes, CommandPlan, Effect, Fails, IsSpent, faults, makes-end, Ghosts, NothingToCopy, FileName, CopyParts, copies_from, finds_none}
 use Rattle.krb_keytab.specs.Find.{PlacedEntry}
 use Rattle.krb_files.proofs.PlanLaws.{loaded-none}
-use Rattle.krb_editors.specs.Ktcopy.{CopyParts, copies_from, finds_none}
 
 -- memory ran out before any load
 pub makes_spent : {F : Type 0} (trait : Ghosts F) (old : F) (plan : CommandPlan) (effect : Effect) → IsSpent effect → Makes trait old plan effect old

@@ -1,11 +1,8 @@
 -- Several files were looked for, one after the other.
-use Rattle.krb_editors.proofs.Cited.{List, ◌∷◌, refl, subst, sym, ℕ, ◌<◌, get_or, length, Bool, true, false, ◌≡◌, ◌+◌, drop, drop_more, ◌||◌, Ghosts, FileName, LooksAt, LooksFor}
-use Rattle.krb_driver.specs.Runs.{ErrorWatch}
-use Rattle.std.proofs.Math.Bool.{or_assoc}
+use Rattle.krb_editors.proofs.Cited.{arith, List, ◌∷◌, refl, subst, sym, ℕ, ◌<◌, get_or, length, Bool, false, ◌≡◌, ◌+◌, drop, drop_more, ◌||◌, Ghosts, FileName, LooksAt, LooksFor, ErrorWatch, or_assoc}
 
 pub or_false : (a : Bool) → (a || false) ≡ a
-or_false true = refl
-or_false false = refl
+or_false a = grind arith
 
 module _ {F : Type 0} (trait : Ghosts F) (files : F) where
   -- what is seen of the rest of the names, after one so far was missing or not, is seen of all

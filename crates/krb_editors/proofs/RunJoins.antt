@@ -1,6 +1,5 @@
 -- Runs one after the other, and what lines do to a cache.
-use Rattle.krb_editors.proofs.Cited.{◌≡◌, ◌<◌, ℕ, List, [], ◌∷◌, ◌++◌, length, take, refl, sym, ap, subst, ◌∙◌, append_assoc, take_more, Event, ReplyContent, Rules, SessionState, after, reply_to, AllLawful, history, replies, state_after, Ran, ran_of, false, map, append-nil, put_reply, cache_rules, CacheState, is_refusal, line_events, lines_events, Put, Cut, Code, CredParts}
-use Rattle.std.specs.Prelude.{◌+◌, get_or, Result, Ok, Err}
+use Rattle.krb_editors.proofs.Cited.{arith, ◌≡◌, ◌<◌, ℕ, List, [], ◌∷◌, ◌++◌, length, take, refl, sym, ap, subst, ◌∙◌, append_assoc, take_more, Event, ReplyContent, Rules, SessionState, after, reply_to, AllLawful, history, replies, state_after, Ran, ran_of, false, map, append-nil, put_reply, cache_rules, CacheState, is_refusal, line_events, lines_events, Put, Cut, Code, CredParts, ◌+◌, get_or, Result}
 use Rattle.krb_ccache.specs.Changes.{is_refused, put_result}
 use Rattle.krb_ccache.specs.SetConfig.{SettingParts, entry_of, match_places, setting_events}
 use Rattle.krb_cache_text.specs.Script.{CacheLineParts}
@@ -21,9 +20,8 @@ lawful_join r s (e ∷ es) fs all more = (all.0, lawful_join r (after r s e) es 
 pub ran_join : {S I : Type 0} (r : Rules S I) (old mid new : SessionState S) (es fs : List (Event I)) (t u v : List ReplyContent) → Ran r old mid es t u → Ran r mid new fs u v → Ran r old new (es ++ fs) t v
 ran_join {S} r old mid new es fs t u v first second =
     ran_of r old new (es ++ fs) t v first.run.ready
-    (second.replies_are ∙ ap (λ (s : SessionState S). u ++ replies (history r s fs)) first.state ∙ ap (λ (x : List ReplyContent). x ++ replies (history r (state_after r old es) fs)) first.replies_are
-    ∙ append_assoc t (replies (history r old es)) (replies (history r (state_after r old es) fs)) ∙ sym (ap (λ (x : List ReplyContent). t ++ x) (replies_join r old es fs)))
-    (second.state ∙ ap (λ (s : SessionState S). state_after r s fs) first.state ∙ sym (state_join r old es fs))
+    (grind (arith, second.replies_are, first.replies_are, first.state, append_assoc, replies_join r old es fs))
+    (grind (arith, second.state, first.state, state_join r old es fs))
     (lawful_join r old es fs first.run.lawful (subst (λ (s : SessionState S). AllLawful r (history r s fs)) first.state second.run.lawful))
 
 -- a run ends in the state that its events leave
@@ -43,8 +41,7 @@ ran_event r start old new es i e t u v below is first second = rw (one_more es i
 
 -- an addition was refused iff its reply is a refusal
 refusal_reply : (given : Result (ℕ × CacheState) Code) → is_refused given ≡ is_refusal (put_reply given)
-refusal_reply (Ok given) = refl
-refusal_reply (Err refused) = refl
+refusal_reply given = grind arith
 
 -- the addition of a setting was not refused, and the removals follow
 pub set_placed : (old mid new : SessionState CacheState) (s : SettingParts) (removals : List (Event CredParts)) (t u v : List ReplyContent) → removals ≡ map Cut (match_places old.store s)
@@ -64,10 +61,7 @@ lines_more s [] line = append-nil (line_events s line)
 lines_more s (x ∷ xs) line =
     let first = line_events s x in
     let next = state_after cache_rules s first in
-    let more = lines_events next xs in
-    ap (λ (es : List (Event CredParts)). first ++ es) (lines_more next xs line)
-    ∙ sym (append_assoc first more (line_events (state_after cache_rules next more) line))
-    ∙ ap (λ (t : SessionState CacheState). (first ++ more) ++ line_events t line) (sym (state_join cache_rules s first more))
+    grind (arith, lines_more next xs line, append_assoc, state_join cache_rules s first (lines_events next xs))
 
 -- a run of the first lines, and one of the next
 pub ran_line : (start old new : SessionState CacheState) (lines : List CacheLineParts) (i : ℕ) (line : CacheLineParts) (t u v : List ReplyContent) → i < length lines → line ≡ get_or lines i line

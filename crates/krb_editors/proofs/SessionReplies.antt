@@ -1,6 +1,5 @@
 -- What was made of a store by a session over it.
-use Rattle.krb_editors.proofs.Cited.{◌≡◌, ℕ, List, [], refl, ap, subst, ◌∙◌, Event, ReplyContent, Rules, SessionState, state_after, Ran, text_effect, Effect, new_session, left, replied, session_effect, RunsFairly}
-use Rattle.std.specs.Prelude.{Option, Result, Ok, Err, IfOk}
+use Rattle.krb_editors.proofs.Cited.{arith, ◌≡◌, ℕ, List, [], refl, subst, Event, ReplyContent, Rules, SessionState, state_after, Ran, text_effect, Effect, new_session, left, replied, session_effect, RunsFairly, Option, Result, Ok, IfOk}
 use Rattle.krb_driver.specs.declared.command.Made.{Made}
 use Rattle.krb_driver.specs.declared.command.Output.{Output}
 use Rattle.krb_driver.specs.declared.verdict.FileKind.{FileKind}
@@ -8,9 +7,7 @@ use Rattle.krb_driver.specs.declared.verdict.FileKind.{FileKind}
 -- a run of a session that began as a new one is a run of the new session over the store
 pub ran_begun : {S I : Type 0} (r : Rules S I) (store : S) (events : List (Event I)) (old new : SessionState S) (reported : List ReplyContent)
     → old ≡ new_session store → Ran r old new events [] reported → Ran r (new_session store) (state_after r (new_session store) events) events [] reported
-ran_begun {S} r store events old new reported begins ran =
-    let from_new : Ran r (new_session store) new events [] reported = subst (λ (s : SessionState S). Ran r s new events [] reported) begins ran in
-    subst (λ (s : SessionState S). Ran r (new_session store) s events [] reported) from_new.state from_new
+ran_begun r store events old new reported begins ran = grind (arith, begins, ran, ran.state)
 
 -- every walk is given what is due to it
 pub ran_fair : {S I : Type 0} (r : Rules S I) (store : S) (events : List (Event I)) (reported : List ReplyContent)
@@ -25,8 +22,7 @@ begun_fair r store events old new reported begins ran = ran_fair r store events 
 -- such a session leaves the store that the events leave
 pub left_begun : {S I : Type 0} (r : Rules S I) (store : S) (events : List (Event I)) (old new : SessionState S) (reported : List ReplyContent)
     → old ≡ new_session store → Ran r old new events [] reported → new.store ≡ left r store events
-left_begun {S} r store events old new reported begins ran =
-    ap (λ (s : SessionState S). s.store) (ran.state ∙ ap (λ (s : SessionState S). state_after r s events) begins)
+left_begun r store events old new reported begins ran = grind (arith, begins, ran.state)
 
 -- what is due after the replies of a session is the effect of the session
 pub session_made : {S I : Type 0} (kind : FileKind) (r : Rules S I) (image : S → List ℕ) (lines : List ReplyContent → List ℕ) (store : S) (events : List (Event I)) (reported : List ReplyContent) (bytes : List ℕ)
@@ -37,10 +33,8 @@ session_made kind r image lines store events reported bytes ran bytes_are hidden
 -- the effect is what is due, if the two are the same for every file
 pub made_as : {A E : Type 0} (given due : List ℕ → Effect) → ((file : List ℕ) → given file ≡ due file) → (result : Result (Made A (Output A)) E)
     → IfOk result (λ made. (file : List ℕ) → text_effect file (Ok made) ≡ given file) → IfOk result (λ made. (file : List ℕ) → text_effect file (Ok made) ≡ due file)
-made_as given due same (Ok made) is = λ file. is file ∙ same file
-made_as given due same (Err refused) is = tt
+made_as given due same result is = grind (arith, same, is)
 
 -- what holds anyway also holds if something was made
 pub made_so : {X E : Type 0} (P : Type 0) → P → (result : Result X E) → IfOk result (λ made. P)
-made_so P holds (Ok made) = holds
-made_so P holds (Err refused) = tt
+made_so P holds result = grind (arith, holds)

@@ -1,8 +1,25 @@
 -- The text of an object with arrays in it, in pieces.
-use Rattle.krb_json.proofs.Cited.{◌≡◌, ℕ, Bool, true, false, List, [], ◌∷◌, ◌++◌, fold, refl, sym, ap, ◌∙◌, append_assoc, Token, begin_object, end_object, begin_array, end_array, key, json_tokens, items_tokens, members_tokens, text_from, text_of, Member, members_of, object_of, array_of, member_tokens, tokens_of, element_text, elements_text, head_tokens, between_tokens, fold-append, items_of}
+use Rattle.krb_json.proofs.Cited.{◌≡◌, ℕ, Bool, true, false, List, [], ◌∷◌, ◌++◌, fold, refl, sym, ap, ◌∙◌, append_assoc, append-nil, Token, begin_object, end_object, begin_array, end_array, key, json_tokens, items_tokens, members_tokens, text_from, text_of, Member, members_of, object_of, array_of, member_tokens, tokens_of, element_text, elements_text, head_tokens, between_tokens, fold-append, items_of, ends, ends_value, arith, flat_map-append}
 use Rattle.json.specs.Json.{Json, boolean, array, object, Items, no_items, item, Members, no_members, member}
-use Rattle.json.specs.Print.{ends, ends_value}
 use Rattle.krb_json.proofs.EscapedLemmas.{text_from-append}
+
+-- ---- the tokens before an array
+
+tokens_push : (ms : List Member) (m : Member) → tokens_of (ms ++ m ∷ []) ≡ tokens_of ms ++ member_tokens m
+tokens_push ms m = flat_map-append member_tokens ms (m ∷ []) ∙ ap (λ l. tokens_of ms ++ l) (append-nil (member_tokens m))
+
+-- after a list another, and then a third
+pub chain : {X : Type 0} (a b c x y : List X) → b ≡ a ++ x → c ≡ b ++ y → c ≡ a ++ (x ++ y)
+chain a b c x y is_b is_c = is_c ∙ ap (λ t. t ++ y) is_b ∙ append_assoc a x y
+
+-- the tokens before an array's first element
+pub head_written : (ms : List Member) (name : List ℕ) (none t : List Token) → none ≡ [] → t ≡ none ++ begin_object ∷ tokens_of ms → t ++ key name ∷ begin_array ∷ [] ≡ head_tokens ms name
+head_written ms name none t is_none is_t = ap (λ l. l ++ key name ∷ begin_array ∷ []) (is_t ∙ ap (λ l. l ++ begin_object ∷ tokens_of ms) is_none)
+
+-- one more member
+pub one_more_member : (ms : List Member) (m : Member) (none t u : List Token) → t ≡ none ++ begin_object ∷ tokens_of ms → u ≡ t ++ member_tokens m → u ≡ none ++ begin_object ∷ tokens_of (ms ++ m ∷ [])
+one_more_member ms m none t u is_t is_u =
+    is_u ∙ ap (λ l. l ++ member_tokens m) is_t ∙ append_assoc none (begin_object ∷ tokens_of ms) (member_tokens m) ∙ ap (λ l. none ++ begin_object ∷ l) (sym (tokens_push ms m))
 
 -- ---- a value alone
 
@@ -33,8 +50,7 @@ value_begins true _ = refl
 -- there is no comma before the end of an array
 array_ends : (c : Bool) (ts : List Token) → text_from c (end_array ∷ ts) ≡ text_of (end_array ∷ ts)
 unfolding text_from
-array_ends true ts = refl
-array_ends false ts = refl
+array_ends c ts = grind arith
 
 -- the text of the elements, and of what follows them
 pub elements_print : (c : Bool) (vs : List Json) (ts : List Token) → text_from c (items_tokens (items_of vs) ++ ts) ≡ elements_text c vs ++ text_of (end_array ∷ ts)
@@ -59,6 +75,9 @@ pub members_end_object : (ms : List Member) → members_tokens (members_of ms) �
 members_end_object [] = refl
 members_end_object (m ∷ ms) =
     ap (λ l. key m.0 ∷ (json_tokens m.1 ++ l)) (members_end_object ms) ∙ sym (append_assoc (member_tokens m) (tokens_of ms) (end_object ∷ []))
+
+-- how the tokens of members join
+pub ruleset joins = (append_assoc, append-nil, members_append, members_end_object)
 
 -- ---- objects
 

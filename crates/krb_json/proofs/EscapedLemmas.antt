@@ -1,11 +1,66 @@
 -- Escaped texts, token by token.
-use Rattle.krb_json.proofs.Cited.{◌≡◌, ℕ, ◌==◌, ◌&&◌, Bool, true, false, cond, List, [], ◌∷◌, ◌++◌, fold, length, refl, sym, ap, ◌∙◌, subst, arith, append_assoc, append-nil, common_steps, nat_tests, or_parts, false_from_ne_true, list_any, slice_index_or, added, escaped, in_json, shown, text_from, text_of, Token, key, string, number, boolean}
+use Rattle.krb_json.proofs.Cited.{◌≡◌, ℕ, ◌==◌, ◌&&◌, Bool, true, false, cond, List, [], ◌∷◌, ◌++◌, fold, length, refl, sym, ap, ◌∙◌, subst, arith, append_assoc, append-nil, common_steps, nat_tests, or_parts, false_from_ne_true, list_any, slice_index_or, added, escaped, in_json, shown, text_from, text_of, Token, key, string, number, boolean, ArePrintableOrBad-tokens, tokens, print, print_from, begins, ends, separator, token_text, json_escape, IsPrintableOrBad, ArePrintableOrBad, suc, ◌+◌, drop, Option, Some, None, option_and_then, prefix_len, is_ascii_digit, IsNumber, ◌||◌}
 use Rattle.std.proofs.lemmas.List.Folds.{list_any_none}
 use Rattle.memchr.specs.Find.{Nowhere, Passes}
-use Rattle.json.specs.Lex.{tokens}
-use Rattle.json.specs.Print.{print, print_from, begins, ends, separator, token_text, escape as json_escape, IsPrintableOrBad, ArePrintableOrBad}
-use Rattle.json.proofs.Numbered.{ArePrintableOrBad-tokens}
-use Rattle.krb_json.proofs.EscapedNumbers.{is_special, number_has_none}
+use Rattle.json.specs.Word.{after_digits, after_minus, after_sign, after_whole, after_fraction, after_exponent, after_number}
+
+-- ---- a number has no byte that is escaped
+
+-- a byte that may begin an escape
+abbrev pub is_special : ℕ → Bool
+is_special b = (b == 127) || (b == 194)
+
+abbrev has : List ℕ → Bool
+has t = list_any is_special t
+
+-- whether what is left of a text has one, or the text if nothing is left
+abbrev left_has : Bool → Option (List ℕ) → Bool
+left_has b None = b
+left_has b (Some r) = has r
+
+-- each part of the grammar leaves all such bytes
+abbrev Leaves : (List ℕ → Option (List ℕ)) → Type 0
+Leaves f = (t : List ℕ) → left_has (has t) (f t) ≡ has t
+
+sign : Leaves (λ t. Some (after_sign t))
+sign [] = refl
+sign (x ∷ xs) = grind (arith, nat_tests)
+
+run : Leaves (λ t. Some (drop (prefix_len is_ascii_digit t) t))
+run [] = refl
+run (x ∷ xs) =
+    let n = prefix_len is_ascii_digit xs in
+    let next : 1 + n ≡ suc n = omega arith in
+    grind (arith, nat_tests, run xs, ap (λ k. drop k (x ∷ xs)) next)
+
+digits : Leaves after_digits
+digits t = grind (arith, nat_tests, run t)
+
+whole : Leaves after_whole
+whole [] = refl
+whole (x ∷ xs) = grind (arith, nat_tests, digits (x ∷ xs))
+
+signed : Leaves (λ t. after_whole (after_minus t))
+signed [] = refl
+signed (x ∷ xs) = grind (arith, nat_tests, whole xs, whole (x ∷ xs))
+
+fraction : Leaves after_fraction
+fraction [] = refl
+fraction (x ∷ xs) = grind (arith, nat_tests, digits xs)
+
+exponent : Leaves after_exponent
+exponent [] = refl
+exponent (x ∷ xs) = grind (arith, nat_tests, digits (after_sign xs), sign xs)
+
+then : (f : List ℕ → Option (List ℕ)) → Leaves f → (b : Bool) (o : Option (List ℕ)) → left_has b o ≡ b → left_has b (option_and_then f o) ≡ b
+then f leaves b None e = refl
+then f leaves b (Some r) e = subst (λ c. left_has c (f r) ≡ c) e (leaves r)
+
+pub number_has_none : (s : List ℕ) → IsNumber s → list_any is_special s ≡ false
+unfolding after_number
+number_has_none s h =
+    let front = after_whole (after_minus s) in
+    sym (subst (λ o. left_has (has s) o ≡ has s) h (then after_exponent exponent (has s) (option_and_then after_fraction front) (then after_fraction fraction (has s) front (signed s))))
 
 -- bytes that need no escape, before others
 pub escaped-front : (front rest : List ℕ) → list_any is_special front ≡ false → escaped in_json false (front ++ rest) ≡ front ++ escaped in_json false rest
@@ -33,8 +88,7 @@ token_shown (boolean false) rest h = refl
 token_shown _ rest h = refl
 
 separator_none : (c : Bool) → list_any is_special (cond c (44 ∷ []) []) ≡ false
-separator_none true = refl
-separator_none false = refl
+separator_none c = grind arith
 
 -- what is printed is escaped token by token
 pub text_from-escaped : (c : Bool) (ts : List Token) → ArePrintableOrBad ts → escaped in_json false (print_from c ts) ≡ text_from c ts

@@ -1,12 +1,8 @@
 pub mod Cited
 pub mod Texts
-pub mod EscapedNumbers
 pub mod EscapedLemmas
-pub mod EscapedStrings
 pub mod EscapedReads
 pub mod Arrays
-pub mod Chains
-pub mod Sending
 pub mod Adding
 pub mod ReadBack
 pub mod Wholes

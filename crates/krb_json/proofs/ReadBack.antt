@@ -1,13 +1,8 @@
 -- What is written is read back.
-use Rattle.krb_json.proofs.Cited.{◌≡◌, ℕ, ◌<◌, ◌≤◌, ◌^◌, Bool, true, false, cond, List, [], ◌∷◌, ◌++◌, codes, Option, None, Some, refl, sym, subst, arith, append_assoc, append-nil, is_utf8, depth, items_depth, members_depth, HasNumbers, name_text, CacheState, ConfigParts, PlacedCredential, placed_credentials, json_text, Member, object_of, array_of, mode_value, about_members, finding_value, finding_values, missing_value, check_value, refused_value, members_of, etype_members, file_members, text_member, text_or_null, fault_value, digits_of, number_of, ℤ, pos, option_map, integer_or_null, name_of_etype, own_server_member, own_members, party_members, size_members, flag_members, time_members, ticket_value, about_member, config_value, config_values, ticket_values, offset_value, offset_in, cache_members, cache_value, key_members, owner_members, entry_value, entry_values, keytab_value, check_members, etype_name_of, ticket_encryption, ticket_server, KeytabState, store_of, fault_of, CheckParts, ArePlain, items_of, map, take, option_and_then, Token, end_array, json_tokens, items_tokens, members_tokens, head_tokens, between_tokens, tail_tokens}
+use Rattle.krb_json.proofs.Cited.{◌≡◌, ℕ, ◌<◌, ◌≤◌, ◌^◌, Bool, true, false, cond, List, [], ◌∷◌, ◌++◌, codes, Option, None, Some, refl, sym, subst, arith, append_assoc, append-nil, is_utf8, depth, items_depth, members_depth, HasNumbers, name_text, CacheState, ConfigParts, PlacedCredential, placed_credentials, json_text, Member, object_of, array_of, mode_value, about_members, finding_value, finding_values, missing_value, check_value, refused_value, members_of, etype_members, file_members, text_member, text_or_null, fault_value, digits_of, number_of, ℤ, pos, option_map, integer_or_null, name_of_etype, own_members, party_members, size_members, flag_members, time_members, ticket_value, text_or_null_member, config_value, config_values, ticket_values, offset_value, offset_in, cache_members, cache_value, key_members, owner_members, entry_value, entry_values, keytab_value, check_members, etype_name_of, ticket_encryption, ticket_server, KeytabState, store_of, fault_of, CheckParts, ArePlain, items_of, map, take, option_and_then, Token, end_array, json_tokens, items_tokens, members_tokens, head_tokens, between_tokens, tail_tokens, ArePrintableOrBad-tokens, value-HasNumbers, value-json_tokens, tokens, ArePrintableOrBad as Printed, print, MatchedParts, Fault, etypes_value, found, judgement_members, match_members, match_value, matches_value, ticket_numbers, name_members, summary_value}
 use Rattle.json.specs.Json.{Json, string, document}
-use Rattle.json.specs.Lex.{tokens}
-use Rattle.json.specs.Print.{ArePrintableOrBad as Printed, print}
-use Rattle.json.proofs.Numbered.{ArePrintableOrBad-tokens, value-HasNumbers}
 use Rattle.json.proofs.Printed.Decimals.{IsNumber-decimal}
-use Rattle.json.proofs.Printed.Trees.{value-json_tokens}
 use Rattle.krb_wire.specs.Spelling.{Parts, version_byte}
-use Rattle.krb_walk.specs.declared.fault.Fault.{Fault}
 use Rattle.krb_keytab.specs.Find.{PlacedEntry}
 use Rattle.krb_ccache.specs.Store as cache
 use Rattle.krb_ccache.specs.declared.offset.Offset.{Offset}
@@ -15,11 +10,7 @@ use Rattle.krb_ccache.specs.declared.ticket.TicketEncryption.{TicketEncryption}
 use Rattle.krb_findings.specs.declared.finding.Finding.{Finding}
 use Rattle.krb_match.specs.declared.judgement.Judgement.{Judgement}
 use Rattle.krb_match.specs.declared.judgement.Judgement.TheVariants.{Etype}
-use Rattle.krb_match.specs.Tickets.{MatchedParts}
-use Rattle.krb_json.specs.Check.{name_members}
-use Rattle.krb_json.specs.Matches.{etypes_value, found, judgement_members, match_members, match_value, matches_value, ticket_numbers}
 use Rattle.krb_json.specs.declared.summary.CacheSummary.{CacheSummary}
-use Rattle.krb_json.specs.Summary.{number_or_null, summary_value}
 use Rattle.krb_json.proofs.Arrays.{members_end_object, split_at_array}
 use Rattle.krb_json.proofs.EscapedReads.{document-text}
 
@@ -31,13 +22,11 @@ text_depth name text =
     elim (is_utf8 text) as (λ b. depth (cond {A = Member} b (name, string text) (name ++ codes "_hex", digits_of text)).1 ≡ 0) [ true ↦ refl | false ↦ refl ]
 
 or_null_depth : (o : Option (List ℕ)) → depth (text_or_null o) ≡ 0
-or_null_depth None = refl
-or_null_depth (Some text) = refl
+or_null_depth o = grind arith
 
 key_depth : (is_shown : Bool) (key : List ℕ) → members_depth (members_of (key_members is_shown key)) ≤ 0
 unfolding key_members
-key_depth true key = omega arith
-key_depth false key = omega arith
+key_depth is_shown key = grind arith
 
 pub entry_flat : (shows_keys : Bool) (x : PlacedEntry) → depth (entry_value shows_keys x) ≤ 2
 unfolding entry_value owner_members etype_members
@@ -45,17 +34,15 @@ entry_flat shows_keys x =
     omega (arith, text_depth (codes "principal") (name_text x.1.principal), or_null_depth (etype_name_of x.1.enctype), key_depth shows_keys x.1.key)
 
 integer_depth : (o : Option ℤ) → depth (integer_or_null o) ≡ 0
-integer_depth None = refl
-integer_depth (Some n) = refl
+integer_depth o = grind arith
 
-own_server_depth : (o : Option Parts) → depth (own_server_member o).1 ≡ 0
-own_server_depth None = refl
-own_server_depth (Some p) = text_depth (codes "ticket_server") (name_text p)
+member_depth : (name : List ℕ) (o : Option (List ℕ)) → depth (text_or_null_member name o).1 ≡ 0
+member_depth name o = grind (arith, text_depth)
 
 own_depth : (o : Option TicketEncryption) (server : Option Parts) → members_depth (members_of (own_members o server)) ≡ 0
 unfolding own_members
-own_depth None server = omega (arith, own_server_depth server)
-own_depth (Some e) server = omega (arith, or_null_depth (name_of_etype e.etype), integer_depth (option_map pos e.kvno), own_server_depth server)
+own_depth None server = omega (arith, member_depth (codes "ticket_server") (option_map name_text server))
+own_depth (Some e) server = omega (arith, or_null_depth (name_of_etype e.etype), integer_depth (option_map pos e.kvno), member_depth (codes "ticket_server") (option_map name_text server))
 
 pub ticket_flat : (x : PlacedCredential) → depth (ticket_value x) ≤ 2
 unfolding ticket_value party_members time_members flag_members etype_members size_members
@@ -68,30 +55,23 @@ ticket_flat x =
       own_depth (ticket_encryption x.1.ticket) (ticket_server x.1.ticket),
     )
 
-about_depth : (o : Option (List ℕ)) → depth (about_member o).1 ≡ 0
-about_depth None = refl
-about_depth (Some text) = text_depth (codes "principal") text
-
 pub config_flat : (place : ℕ) (name : ConfigParts) (value : List ℕ) → depth (config_value place name value) ≤ 2
 unfolding config_value
-config_flat place name value = omega (arith, text_depth (codes "key") name.key, about_depth name.principal, text_depth (codes "value") value)
+config_flat place name value = omega (arith, text_depth (codes "key") name.key, member_depth (codes "principal") name.principal, text_depth (codes "value") value)
 
 mode_depth : (mode : Option ℕ) → depth (mode_value mode) ≡ 0
-mode_depth None = refl
-mode_depth (Some mode) = refl
+mode_depth mode = grind arith
 
 pub file_finding_flat : (finding : Finding) → depth (finding_value finding []) ≤ 2
 file_finding_flat finding = omega arith
 
 pub entry_finding_flat : (finding : Finding) (first : Option ℕ) (x : PlacedEntry) → depth (finding_value finding (about_members first x)) ≤ 2
 unfolding about_members
-entry_finding_flat finding None x = omega (arith, text_depth (codes "principal") (name_text x.1.principal))
-entry_finding_flat finding (Some first) x = omega (arith, text_depth (codes "principal") (name_text x.1.principal))
+entry_finding_flat finding first x = grind (arith, text_depth (codes "principal") (name_text x.1.principal))
 
 pub name_finding_flat : (finding : Finding) (kvno : Option ℕ) (name : Parts) → depth (finding_value finding (name_members kvno name)) ≤ 2
 unfolding name_members
-name_finding_flat finding None name = omega (arith, text_depth (codes "principal") (name_text name))
-name_finding_flat finding (Some kvno) name = omega (arith, text_depth (codes "principal") (name_text name))
+name_finding_flat finding kvno name = grind (arith, text_depth (codes "principal") (name_text name))
 
 pub missing_flat : (name : List ℕ) → depth (missing_value name) ≤ 2
 missing_flat name = omega (arith, text_depth (codes "principal") name)
@@ -118,16 +98,10 @@ match_flat t =
     )
 
 fault_depth : (o : Option Fault) → depth (fault_value o) ≤ 1
-fault_depth None = omega arith
-fault_depth (Some fault) = omega arith
+fault_depth o = grind arith
 
 offset_depth : (o : Option Offset) → depth (offset_value o) ≤ 1
-offset_depth None = omega arith
-offset_depth (Some offset) = omega arith
-
-end_depth : (end : Option ℕ) → depth (number_or_null end) ≡ 0
-end_depth None = refl
-end_depth (Some seconds) = refl
+offset_depth o = grind arith
 
 plain_depth : (vs : List Json) → ArePlain vs → items_depth (items_of vs) ≤ 2
 plain_depth [] h = omega arith
@@ -214,4 +188,4 @@ refused_is_read file error status small =
 
 pub summary_is_read : (file : List ℕ) (p : Parts) (s : CacheSummary) → Printed (json_tokens (summary_value file p s)) → document (json_text (summary_value file p s)) ≡ Some (summary_value file p s)
 unfolding summary_value
-summary_is_read file p s printed = value_is_read _ printed (omega (arith, text_depth (codes "default_principal") (name_text p), end_depth s.endtime))
+summary_is_read file p s printed = value_is_read _ printed (omega (arith, text_depth (codes "default_principal") (name_text p), integer_depth (option_map pos s.endtime)))

@@ -1,5 +1,5 @@
 -- Texts that are UTF-8.
-use Rattle.krb_json.proofs.Cited.{map, cond, ◌≡◌, ℕ, zero, suc, ◌<◌, ◌+◌, ◌/◌, ◌%◌, ◌==◌, arith, ◌++◌, lt-ltb, Bool, true, false, List, [], ◌∷◌, IsUtf8, IsAscii, ◌&&◌, refl, ltb, filter, is_utf8, and_parts, and_from, ltb-true, IsUtf8-from_is_utf8, is_utf8-from_IsUtf8, IsUtf8-from_ascii, flag_table, is_set, flag_letters_of}
+use Rattle.krb_json.proofs.Cited.{map, cond, ◌≡◌, ℕ, zero, suc, ◌<◌, ◌+◌, ◌/◌, ◌%◌, ◌==◌, arith, ◌++◌, lt-ltb, Bool, true, false, List, [], ◌∷◌, IsUtf8, IsAscii, ◌&&◌, refl, ltb, filter, is_utf8, and_parts, and_from, ltb-true, IsUtf8-from_is_utf8, is_utf8-from_IsUtf8, IsUtf8-from_ascii, flag_table, is_set, flag_letters_of, false_from_ne_true}
 use Rattle.std.proofs.lemmas.Str.Ascii.{IsAscii-nil, IsAscii-cons}
 use Rattle.krb_audit.specs.Report.{octal, mode_digits}
 use Rattle.hex.specs.Hex.{encode_lower, lower_digits}
@@ -8,12 +8,8 @@ use Rattle.hex.proofs.HexLemmas.{IsAscii-encode_with}
 pub utf8_is_text : (bytes : List ℕ) → IsUtf8 bytes → is_utf8 bytes ≡ true
 utf8_is_text bytes h = is_utf8-from_IsUtf8 bytes h
 
-by_test : (bytes : List ℕ) (b : Bool) → is_utf8 bytes ≡ b → (IsUtf8 bytes → ⊥) → b ≡ false
-by_test bytes false e h = refl
-by_test bytes true e h = absurd (h (IsUtf8-from_is_utf8 bytes e))
-
 pub other_is_no_text : (bytes : List ℕ) → (IsUtf8 bytes → ⊥) → is_utf8 bytes ≡ false
-other_is_no_text bytes h = by_test bytes (is_utf8 bytes) refl h
+other_is_no_text bytes h = false_from_ne_true (is_utf8 bytes) (λ e. h (IsUtf8-from_is_utf8 bytes e))
 
 -- ---- ASCII
 
@@ -55,8 +51,7 @@ octal_is_ascii (suc places) n =
     elim (n == 0) as (λ b. are_ascii (cond b [] (octal places (n / 8) ++ (48 + n % 8) ∷ [])) ≡ true) [ true ↦ refl | false ↦ more ]
 
 digits_are_ascii : (b : Bool) (n : ℕ) → are_ascii (cond b (48 ∷ []) (octal 4 n)) ≡ true
-digits_are_ascii true n = refl
-digits_are_ascii false n = octal_is_ascii 4 n
+digits_are_ascii b n = grind (arith, octal_is_ascii 4 n)
 
 -- the digits of a mode are UTF-8
 pub mode_is_text : (mode : ℕ) → is_utf8 (mode_digits mode) ≡ true

@@ -1,10 +1,7 @@
 -- The text of a file, in pieces.
-use Rattle.krb_json.proofs.Cited.{◌≡◌, ℕ, Option, map, Bool, false, List, [], ◌∷◌, ◌++◌, codes, refl, ap, ◌∙◌, append_assoc, Json, end_array, json_tokens, members_tokens, CacheState, placed_credentials, text_of, Member, members_of, object_of, array_of, fault_value, file_members, entry_values, keytab_value, keytab_json_text, check_members, finding_values, check_value, check_json_text, status_members, Some, ticket_values, config_values, cache_members, cache_value, cache_json_text, elements_text, head_tokens, between_tokens, tail_tokens, arrays_text, fault_of, KeytabState, store_of, CheckParts}
+use Rattle.krb_json.proofs.Cited.{◌≡◌, ℕ, Option, map, Bool, false, List, [], ◌∷◌, ◌++◌, codes, refl, ap, ◌∙◌, append_assoc, Json, end_array, json_tokens, members_tokens, CacheState, placed_credentials, text_of, Member, members_of, object_of, array_of, fault_value, file_members, entry_values, keytab_value, keytab_json_text, check_members, finding_values, check_value, check_json_text, optional, Some, ticket_values, config_values, cache_members, cache_value, cache_json_text, elements_text, head_tokens, between_tokens, tail_tokens, arrays_text, fault_of, KeytabState, store_of, CheckParts, MatchedParts, Fault, match_json_text, match_members, match_value, matches_value}
 use Rattle.krb_wire.specs.Spelling.{version_byte}
 use Rattle.krb_ccache.specs.Store as cache
-use Rattle.krb_walk.specs.declared.fault.Fault.{Fault}
-use Rattle.krb_match.specs.Tickets.{MatchedParts}
-use Rattle.krb_json.specs.Matches.{match_json_text, match_members, match_value, matches_value}
 use Rattle.krb_json.proofs.Arrays.{object_print, rest_print, members_end_object}
 
 tail_print : (ns : List Member) → text_of (end_array ∷ members_tokens (members_of ns)) ≡ text_of (tail_tokens ns)
@@ -31,18 +28,18 @@ keytab_text file shows_keys k =
 pub check_text : (file : List ℕ) (c : CheckParts) (status : ℕ)
     → check_json_text file c status
     ≡ text_of (head_tokens (check_members file c.mode c.counts) (codes "findings"))
-    ++ (elements_text false (finding_values c) ++ (text_of (tail_tokens ((codes "fault", fault_value c.fault) ∷ status_members (Some status))) ++ codes "\n"))
+    ++ (elements_text false (finding_values c) ++ (text_of (tail_tokens ((codes "fault", fault_value c.fault) ∷ optional (codes "status") (Some status))) ++ codes "\n"))
 unfolding check_value
 check_text file c status =
-    one_array (check_members file c.mode c.counts) ((codes "fault", fault_value c.fault) ∷ status_members (Some status)) (codes "findings") (finding_values c) (codes "\n")
+    one_array (check_members file c.mode c.counts) ((codes "fault", fault_value c.fault) ∷ optional (codes "status") (Some status)) (codes "findings") (finding_values c) (codes "\n")
 
 pub match_text : (keytab file : List ℕ) (ts : List MatchedParts) (fault : Option Fault) (status : ℕ)
     → match_json_text keytab file ts fault status
     ≡ text_of (head_tokens (match_members keytab file) (codes "tickets"))
-    ++ (elements_text false (map match_value ts) ++ (text_of (tail_tokens ((codes "fault", fault_value fault) ∷ status_members (Some status))) ++ codes "\n"))
+    ++ (elements_text false (map match_value ts) ++ (text_of (tail_tokens ((codes "fault", fault_value fault) ∷ optional (codes "status") (Some status))) ++ codes "\n"))
 unfolding matches_value
 match_text keytab file ts fault status =
-    one_array (match_members keytab file) ((codes "fault", fault_value fault) ∷ status_members (Some status)) (codes "tickets") (map match_value ts) (codes "\n")
+    one_array (match_members keytab file) ((codes "fault", fault_value fault) ∷ optional (codes "status") (Some status)) (codes "tickets") (map match_value ts) (codes "\n")
 
 regroup_five : (a b c d e n : List ℕ) → (a ++ (b ++ (c ++ (d ++ e)))) ++ n ≡ a ++ ((b ++ (c ++ d)) ++ (e ++ n))
 regroup_five a b c d e n = simp append_assoc refl

@@ -51,10 +51,10 @@ abbrev pub integer_or_null : Option ℤ → Json
 integer_or_null None = null
 integer_or_null (Some n) = number (signed_decimal n)
 
--- the server that a ticket itself names, or null
-abbrev pub own_server_member : Option Parts → Member
-own_server_member None = (codes "ticket_server", null)
-own_server_member (Some p) = text_member (codes "ticket_server") (name_text p)
+-- a text as a member, or null
+abbrev pub text_or_null_member : List ℕ → Option (List ℕ) → Member
+text_or_null_member name None = (name, null)
+text_or_null_member name (Some text) = text_member name text
 
 -- what a ticket itself has: its enctype, that one's name, its kvno and its server, each null if it is not there
 unfoldable pub own_members : Option TicketEncryption → Option Parts → List Member
@@ -62,7 +62,7 @@ own_members encryption server =
     (codes "ticket_etype", integer_or_null (option_map (λ e. e.etype) encryption))
     ∷ (codes "ticket_etype_name", text_or_null (option_and_then (λ e. name_of_etype e.etype) encryption))
     ∷ (codes "ticket_kvno", integer_or_null (option_and_then (λ e. option_map pos e.kvno) encryption))
-    ∷ own_server_member server
+    ∷ text_or_null_member (codes "ticket_server") (option_map name_text server)
     ∷ []
 
 -- the rest of a ticket: whether it is under another ticket's session key, how many addresses it has, its length, and what it itself has
@@ -78,36 +78,22 @@ unfoldable pub ticket_value : PlacedCredential → Json
 ticket_value x =
     object_of (party_members x ++ (time_members x.1.times ++ (flag_members x.1.flags ++ (etype_members x.1.key.enctype ++ size_members x.1))))
 
--- the principal that a configuration entry is about, or null
-abbrev pub about_member : Option (List ℕ) → Member
-about_member None = (codes "principal", null)
-about_member (Some text) = text_member (codes "principal") text
-
 -- a configuration entry as JSON: its place, key, principal and value
 unfoldable pub config_value : ℕ → ConfigParts → List ℕ → Json
 config_value place name value =
     object_of (
     (codes "place", number_of place)
     ∷ text_member (codes "key") name.key
-    ∷ about_member name.principal
+    ∷ text_or_null_member (codes "principal") name.principal
     ∷ text_member (codes "value") value
     ∷ []
     )
 
--- a credential as JSON, if it is a ticket
-abbrev pub ticket_by : Option ConfigParts → PlacedCredential → Option Json
-ticket_by None x = Some (ticket_value x)
-ticket_by (Some name) x = None
-
--- a credential as JSON, if it is a configuration entry
-abbrev pub config_by : Option ConfigParts → PlacedCredential → Option Json
-config_by None x = None
-config_by (Some name) x = Some (config_value x.0 name x.1.ticket)
-
 -- a credential as JSON in the array of tickets, or in that of configuration entries, if it belongs there
 abbrev pub shown_by : Shown → Option ConfigParts → PlacedCredential → Option Json
-shown_by Tickets name x = ticket_by name x
-shown_by Configs name x = config_by name x
+shown_by Tickets None x = Some (ticket_value x)
+shown_by Configs (Some name) x = Some (config_value x.0 name x.1.ticket)
+shown_by _ _ x = None
 
 -- the live credentials in the array of tickets, or in that of configuration entries, in file order
 abbrev pub shown_values : Shown → List PlacedCredential → List Json

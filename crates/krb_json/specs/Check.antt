@@ -13,7 +13,7 @@ use Rattle.krb_audit.specs.Findings.{Marked, first_for, newest_for}
 use Rattle.krb_audit.specs.Report.{mode_digits}
 use Rattle.krb_findings.specs.Table.{findings_about_entries, has, row_of}
 use Rattle.krb_json.specs.Escaped.{json_text}
-use Rattle.krb_json.specs.Members.{Member, object_of, array_of, number_of, text_member, fault_value, status_members}
+use Rattle.krb_json.specs.Members.{Member, object_of, array_of, number_of, text_member, fault_value, optional}
 
 -- a mode in octal as JSON, or null
 abbrev pub mode_value : Option ℕ → Json
@@ -38,16 +38,11 @@ finding_value finding ms = object_of ((codes "finding", string (row_of finding).
 abbrev pub file_findings : Bool → Finding → List Json
 file_findings holds finding = if holds then finding_value finding [] ∷ [] else []
 
--- the place of the earlier entry that a finding is about, if there is one
-abbrev pub first_members : Option ℕ → List Member
-first_members None = []
-first_members (Some first) = (codes "first", number_of first) ∷ []
-
--- the entry that a finding is about
+-- the entry that a finding is about, and the place of the earlier one that it is like, if there is one
 unfoldable pub about_members : Option ℕ → PlacedEntry → List Member
 about_members first x =
     (codes "place", number_of x.0)
-    ∷ (first_members first
+    ∷ (optional (codes "first") first
     ++ ((codes "kvno", number_of x.1.version) ∷ (codes "etype", number_of x.1.enctype) ∷ text_member (codes "principal") (name_text x.1.principal) ∷ []))
 
 -- a finding about an entry as JSON, if it holds
@@ -58,14 +53,9 @@ entry_finding m finding = if has m.1.findings finding then finding_value finding
 abbrev pub entry_findings : Marked → List Json
 entry_findings m = flat_map (entry_finding m) findings_about_entries
 
--- the newest kvno of a name, if it is given
-abbrev pub kvno_members : Option ℕ → List Member
-kvno_members None = []
-kvno_members (Some kvno) = (codes "kvno", number_of kvno) ∷ []
-
--- the name that a finding is about
+-- the name that a finding is about, and its newest kvno, if it is given
 unfoldable pub name_members : Option ℕ → Parts → List Member
-name_members kvno name = kvno_members kvno ++ (text_member (codes "principal") (name_text name) ∷ [])
+name_members kvno name = optional (codes "kvno") kvno ++ (text_member (codes "principal") (name_text name) ∷ [])
 
 -- a finding about the name of an entry as JSON, if it holds
 abbrev pub name_finding : Finding → Marked → List Json
@@ -88,7 +78,7 @@ unfoldable pub check_value : List ℕ → CheckParts → ℕ → Json
 check_value file c status =
     object_of (
     check_members file c.mode c.counts
-    ++ ((codes "findings", array_of (finding_values c)) ∷ (codes "fault", fault_value c.fault) ∷ status_members (Some status))
+    ++ ((codes "findings", array_of (finding_values c)) ∷ (codes "fault", fault_value c.fault) ∷ optional (codes "status") (Some status))
     )
 
 -- the line that ktcheck --json prints of a keytab

@@ -9,7 +9,7 @@ use Rattle.krb_match.specs.Said.{word_of}
 use Rattle.krb_match.specs.Tickets.{MatchedParts}
 use Rattle.krb_json.specs.Cache.{integer_or_null}
 use Rattle.krb_json.specs.Escaped.{json_text}
-use Rattle.krb_json.specs.Members.{Member, array_of, fault_value, number_of, object_of, status_members, text_member}
+use Rattle.krb_json.specs.Members.{Member, array_of, fault_value, number_of, object_of, optional, text_member}
 
 -- what the JSON of a ticket has of the keytab: the place of the entry that opens it, or the newest kvno of its name
 abbrev pub found : Judgement → Option ℤ × Option ℤ
@@ -51,7 +51,7 @@ unfoldable pub matches_value : List ℕ → List ℕ → List MatchedParts → O
 matches_value keytab file ts fault status =
     object_of (
     match_members keytab file
-    ++ ((codes "tickets", array_of (map match_value ts)) ∷ (codes "fault", fault_value fault) ∷ status_members (Some status))
+    ++ ((codes "tickets", array_of (map match_value ts)) ∷ (codes "fault", fault_value fault) ∷ optional (codes "status") (Some status))
     )
 
 -- the line that ktmatch --json prints of a cache

@@ -53,10 +53,10 @@ abbrev pub fault_value : Option Fault → Json
 fault_value None = null
 fault_value (Some fault) = object_of ((codes "kind", number_of (fault_number fault.kind)) ∷ (codes "place", number_of fault.place) ∷ [])
 
--- the status of a file, if it is given
-abbrev pub status_members : Option ℕ → List Member
-status_members None = []
-status_members (Some status) = (codes "status", number_of status) ∷ []
+-- a number as a member, if it is given
+abbrev pub optional : List ℕ → Option ℕ → List Member
+optional name None = []
+optional name (Some n) = (name, number_of n) ∷ []
 
 -- the first members of a file's JSON: its name, its kind and its version
 unfoldable pub file_members : List ℕ → List ℕ → ℕ → List Member

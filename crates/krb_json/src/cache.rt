@@ -28,7 +28,7 @@ fn version_number(version: Version) -> u64
 }
 
 // Gathers the text before the first ticket.
-#[tactic(auto, using(crate::proofs::Chains::head_written, crate::proofs::Chains::one_more_member), unfolding(crate::specs::Cache::cache_members))]
+#[tactic(auto, using(crate::proofs::Arrays::head_written, crate::proofs::Arrays::one_more_member), unfolding(crate::specs::Cache::cache_members))]
 fn begin<A: Allocator + Copy, B: Allocator>(
     file: &str,
     cache: &Ccache<B>,

@@ -17,7 +17,7 @@ use std::alloc::Allocator;
 use std::io::Write;
 
 // Gathers the text before the first finding.
-#[tactic(auto, using(crate::proofs::Chains::head_written))]
+#[tactic(auto, using(crate::proofs::Arrays::head_written))]
 fn begin<A: Allocator + Copy, B: Allocator>(
     file: &str,
     found: &CheckUp<'_, B>,

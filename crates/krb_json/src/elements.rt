@@ -7,7 +7,7 @@ ghost use Rattle.json.specs.Token.{Token, begin_array, key};
 ghost use Rattle.json.specs.Tree.{depth, json_tokens};
 ghost use Rattle.krb_text.specs.Gathered.{Prints};
 ghost use Rattle.krb_json.specs.Escaped.{text_of};
-ghost use Rattle.krb_json.specs.Members.{fault_value, status_members};
+ghost use Rattle.krb_json.specs.Members.{fault_value, optional};
 ghost use Rattle.krb_json.specs.Pieces.{Adds, Begins, between_tokens, tail_tokens};
 
 use crate::piece::Piece;
@@ -77,9 +77,9 @@ impl<A: Allocator + Copy> Elements<A> {
     fn append_tail(&mut self, fault: Option<Fault>, status: Option<u8>) -> Result<(), NoMemory>
         requires { self.old.piece ≡ [] }
         ensures text { OnOk result (self.new.gathered.items ≡ self.old.gathered.items
-            ++ (text_of (tail_tokens ((codes "fault", fault_value fault) ∷ status_members status)) ++ codes "\n")) }
+            ++ (text_of (tail_tokens ((codes "fault", fault_value fault) ∷ optional (codes "status") status)) ++ codes "\n")) }
         ensures printed { OnOk result (ArePrintableOrBad
-            (tail_tokens ((codes "fault", fault_value fault) ∷ status_members status))) }
+            (tail_tokens ((codes "fault", fault_value fault) ∷ optional (codes "status") status))) }
     {
         self.piece.end_file(fault, status)?;
         self.piece.append_to(false, &mut self.gathered)?;
@@ -96,9 +96,9 @@ impl<A: Allocator + Copy> Elements<A> {
         requires well { IsFalse out.old.failed }
         requires empty { self.old.piece ≡ [] }
         ensures prints { Prints out.old out.new result (self.old.gathered.items
-            ++ (text_of (tail_tokens ((codes "fault", fault_value fault) ∷ status_members status)) ++ codes "\n")) }
+            ++ (text_of (tail_tokens ((codes "fault", fault_value fault) ∷ optional (codes "status") status)) ++ codes "\n")) }
         ensures printed { OnOk result (ArePrintableOrBad
-            (tail_tokens ((codes "fault", fault_value fault) ∷ status_members status))) }
+            (tail_tokens ((codes "fault", fault_value fault) ∷ optional (codes "status") status))) }
     {
         self.append_tail(fault, status)?;
         put(out, &self.gathered)

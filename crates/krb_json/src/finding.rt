@@ -5,7 +5,7 @@ ghost use Rattle.json.specs.Token.{begin_object};
 ghost use Rattle.json.specs.Json.{string};
 ghost use Rattle.json.specs.Tree.{json_tokens};
 ghost use Rattle.krb_findings.specs.Table.{row_of};
-ghost use Rattle.krb_json.specs.Check.{about_members, check_members, finding_value, first_members, kvno_members, missing_value, name_members};
+ghost use Rattle.krb_json.specs.Check.{about_members, check_members, finding_value, missing_value, name_members};
 ghost use Rattle.krb_json.specs.Pieces.{member_tokens, tokens_of};
 
 use crate::piece::Piece;
@@ -53,16 +53,6 @@ impl<A: Allocator> Piece<A> {
         self.end_object()
     }
 
-    // Writes the place of the first entry that is alike, if it is given.
-    fn first(&mut self, first: Option<u32>) -> Result<(), NoMemory>
-        ensures { OnOk result (self.new ≡ self.old ++ tokens_of (first_members first)) }
-    {
-        match first {
-            Some(first) => self.number("first", first as u64),
-            None => Ok(()),
-        }
-    }
-
     // Writes the entry that a finding is about.
     #[tactic(auto, unfolding(crate::specs::Check::about_members))]
     fn about_entry(
@@ -75,13 +65,14 @@ impl<A: Allocator> Piece<A> {
             ≡ self.old ++ tokens_of (about_members first (place, entry.now))) }
     {
         self.number("place", place as u64)?;
-        self.first(first)?;
+        self.optional("first", first)?;
         self.number("kvno", entry.kvno() as u64)?;
         self.number("etype", entry.enctype() as u64)?;
         self.name(Label::Principal, entry.principal())
     }
 
     /// Writes a finding about an entry as an object, with the place of the first entry that is alike if it is given.
+    #[tactic(auto, using(crate::proofs::Arrays::joins))]
     pub fn entry_finding(
         &mut self,
         finding: Finding,
@@ -98,26 +89,17 @@ impl<A: Allocator> Piece<A> {
         Ok(())
     }
 
-    // Writes the newest kvno of a name, if it is given.
-    fn kvno(&mut self, kvno: Option<u32>) -> Result<(), NoMemory>
-        ensures { OnOk result (self.new ≡ self.old ++ tokens_of (kvno_members kvno)) }
-    {
-        match kvno {
-            Some(kvno) => self.number("kvno", kvno as u64),
-            None => Ok(()),
-        }
-    }
-
     // Writes the name that a finding is about.
     #[tactic(auto, unfolding(crate::specs::Check::name_members))]
     fn about_name(&mut self, kvno: Option<u32>, name: &PrincipalView<'_>) -> Result<(), NoMemory>
         ensures { OnOk result (self.new ≡ self.old ++ tokens_of (name_members kvno name.now)) }
     {
-        self.kvno(kvno)?;
+        self.optional("kvno", kvno)?;
         self.name(Label::Principal, name)
     }
 
     /// Writes a finding about a name as an object, with the newest kvno of the name if it is given.
+    #[tactic(auto, using(crate::proofs::Arrays::joins))]
     pub fn name_finding(
         &mut self,
         finding: Finding,

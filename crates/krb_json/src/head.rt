@@ -3,7 +3,7 @@
 ghost use Rattle.std.specs.Prelude.{◌≡◌, ◌++◌, ◌∷◌, OnOk, codes};
 ghost use Rattle.json.specs.Token.{begin_object};
 ghost use Rattle.krb_json.specs.Cache.{offset_value};
-ghost use Rattle.krb_json.specs.Members.{file_members, fault_value, status_members};
+ghost use Rattle.krb_json.specs.Members.{file_members, fault_value, optional};
 ghost use Rattle.krb_json.specs.Pieces.{member_tokens, tokens_of, tail_tokens};
 
 use crate::piece::Piece;
@@ -52,25 +52,15 @@ impl<A: Allocator> Piece<A> {
         self.end_object()
     }
 
-    // Writes the status, if it is given.
-    fn status(&mut self, status: Option<u8>) -> Result<(), NoMemory>
-        ensures { OnOk result (self.new ≡ self.old ++ tokens_of (status_members status)) }
-    {
-        match status {
-            Some(status) => self.number("status", status as u64),
-            None => Ok(()),
-        }
-    }
-
     /// Ends the last array, writes the fault, or null if there is none, and the status if it is given, and ends the
     /// object of the file.
     pub fn end_file(&mut self, fault: Option<Fault>, status: Option<u8>) -> Result<(), NoMemory>
         ensures { OnOk result (self.new
-            ≡ self.old ++ tail_tokens ((codes "fault", fault_value fault) ∷ status_members status)) }
+            ≡ self.old ++ tail_tokens ((codes "fault", fault_value fault) ∷ optional (codes "status") status)) }
     {
         self.end_array()?;
         self.fault(fault)?;
-        self.status(status)?;
+        self.optional("status", status.map(u32::from))?;
         self.end_object()
     }
 }

@@ -62,7 +62,7 @@ impl<A: Allocator> Piece<A> {
 }
 
 // Gathers the text before the first entry.
-#[tactic(auto, using(crate::proofs::Chains::head_written))]
+#[tactic(auto, using(crate::proofs::Arrays::head_written))]
 fn begin<A: Allocator + Copy>(
     file: &str,
     format: KtFormat,

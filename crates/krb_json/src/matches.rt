@@ -99,6 +99,7 @@ impl<A: Allocator> Piece<A> {
     }
 
     // Writes a ticket as an object.
+    #[tactic(auto, using(crate::proofs::Arrays::joins))]
     fn matched<B: Allocator>(&mut self, ticket: &MatchedTicket<B>) -> Result<(), NoMemory>
         ensures { OnOk result (self.new ≡ self.old ++ json_tokens (match_value ticket.now)) }
     {
@@ -113,7 +114,7 @@ impl<A: Allocator> Piece<A> {
 }
 
 // Gathers the text before the first ticket.
-#[tactic(auto, using(crate::proofs::Chains::head_written))]
+#[tactic(auto, using(crate::proofs::Arrays::head_written))]
 fn begin<A: Allocator + Copy>(
     keytab: &str,
     file: &str,

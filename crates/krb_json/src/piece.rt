@@ -10,7 +10,7 @@ ghost use Rattle.krb_text.specs.Flags.{flag_letters_of};
 ghost use Rattle.krb_json.specs.Cache.{integer_or_null};
 ghost use Rattle.krb_json.specs.Check.{mode_value};
 ghost use Rattle.krb_json.specs.Escaped.{text_of};
-ghost use Rattle.krb_json.specs.Members.{label_text, number_of, digits_of, text_member, text_or_null, etype_members};
+ghost use Rattle.krb_json.specs.Members.{label_text, number_of, optional, digits_of, text_member, text_or_null, etype_members};
 ghost use Rattle.krb_json.specs.Pieces.{member_tokens, tokens_of, comma_after};
 
 use crate::escape::append_escaped;
@@ -145,6 +145,16 @@ impl<A: Allocator> Piece<A> {
     {
         self.writer.key(name)?;
         Ok(self.writer.u64(value)?)
+    }
+
+    /// Writes a member that is a number, if it is given.
+    pub fn optional(&mut self, name: &str, value: Option<u32>) -> Result<(), NoMemory>
+        ensures { OnOk result (self.new ≡ self.old ++ tokens_of (optional name.now value)) }
+    {
+        match value {
+            Some(value) => self.number(name, value as u64),
+            None => Ok(()),
+        }
     }
 
     /// Writes a number that is an element of an array.

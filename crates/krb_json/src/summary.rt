@@ -1,11 +1,10 @@
 //! A cache in an overview, as one line of JSON.
 
-ghost use Rattle.std.specs.Prelude.{◌≡◌, ◌++◌, Some, OnOk, codes};
+ghost use Rattle.std.specs.Prelude.{◌≡◌, ◌++◌, Some, OnOk};
 ghost use Rattle.json.specs.Json.{document};
 ghost use Rattle.json.specs.Tree.{json_tokens};
 ghost use Rattle.krb_json.specs.Escaped.{json_text};
-ghost use Rattle.krb_json.specs.Summary.{number_or_null, summary_value, summary_text};
-ghost use Rattle.krb_json.specs.Pieces.{member_tokens};
+ghost use Rattle.krb_json.specs.Summary.{summary_value, summary_text};
 
 use crate::piece::Piece;
 use crate::put::Label;
@@ -24,17 +23,6 @@ pub struct CacheSummary {
 }
 
 impl<A: Allocator> Piece<A> {
-    // Writes the endtime, or null if there is none.
-    fn endtime(&mut self, endtime: Option<u32>) -> Result<(), NoMemory>
-        ensures { OnOk result (self.new
-            ≡ self.old ++ member_tokens (codes "endtime", number_or_null endtime)) }
-    {
-        match endtime {
-            Some(seconds) => self.number("endtime", seconds as u64),
-            None => self.null("endtime"),
-        }
-    }
-
     // Writes a cache in an overview as an object.
     fn summary<N: Name>(
         &mut self,
@@ -50,7 +38,7 @@ impl<A: Allocator> Piece<A> {
         self.string("kind", "ccache")?;
         self.name(Label::DefaultPrincipal, principal)?;
         self.number("tickets", summary.tickets)?;
-        self.endtime(summary.endtime)?;
+        self.integer("endtime", summary.endtime.map(|seconds| seconds as i64))?;
         self.boolean("expired", summary.is_expired)?;
         self.end_object()
     }
@@ -58,6 +46,7 @@ impl<A: Allocator> Piece<A> {
 
 /// Appends a cache in an overview as one JSON object (RFC 8259) and a newline: its file name, its default principal and
 /// its summary.
+#[tactic(auto, using(crate::proofs::ReadBack::summary_is_read))]
 pub fn append_summary<A: Allocator + Copy, N: Name>(
     alloc: A,
     file: &str,

@@ -1,10 +1,11 @@
 //! JSON of the tickets and of the configuration entries of a cache.
 
-ghost use Rattle.std.specs.Prelude.{◌≡◌, ◌++◌, OnOk, pos, option_map, option_and_then, option_copied};
+ghost use Rattle.std.specs.Prelude.{◌≡◌, ◌++◌, OnOk, codes, pos, option_map, option_and_then, option_copied};
+ghost use Rattle.krb_wire.specs.Names.{name_text};
 ghost use Rattle.krb_ccache.specs.Config.{config_parts};
 ghost use Rattle.krb_ccache.specs.Ticket.{ticket_encryption, ticket_server};
 ghost use Rattle.json.specs.Tree.{json_tokens};
-ghost use Rattle.krb_json.specs.Cache.{party_members, time_members, flag_members, name_of_etype, own_server_member, own_members, size_members, ticket_value, about_member, config_value};
+ghost use Rattle.krb_json.specs.Cache.{party_members, time_members, flag_members, name_of_etype, own_members, size_members, ticket_value, config_value, text_or_null_member};
 ghost use Rattle.krb_json.specs.Pieces.{tokens_of, member_tokens};
 
 use crate::piece::Piece;
@@ -63,7 +64,8 @@ impl<A: Allocator + Copy> Piece<A> {
     // Writes the server that a ticket names itself, or null if it does not.
     fn own_server(&mut self, ticket: &[u8]) -> Result<(), NoMemory>
         ensures { OnOk result (self.new
-            ≡ self.old ++ member_tokens (own_server_member (ticket_server ticket.now))) }
+            ≡ self.old ++ member_tokens (text_or_null_member (codes "ticket_server")
+            (option_map name_text (ticket_server ticket.now)))) }
     {
         match ticket_server(ticket) {
             Some(server) => self.name(Label::TicketServer, &server.copy(self.alloc)?),
@@ -86,6 +88,7 @@ impl<A: Allocator + Copy> Piece<A> {
 
     // Writes whether it is encrypted in another ticket's session key, its number of addresses, the ticket's length, and
     // what that has itself.
+    #[tactic(auto, using(crate::proofs::Arrays::joins), unfolding(crate::specs::Cache::size_members))]
     fn sizes(&mut self, ticket: &CredView<'_>) -> Result<(), NoMemory>
         ensures { OnOk result (self.new ≡ self.old ++ tokens_of (size_members ticket.now)) }
     {
@@ -97,6 +100,7 @@ impl<A: Allocator + Copy> Piece<A> {
     }
 
     /// Writes a ticket of a cache as an object.
+    #[tactic(auto, using(crate::proofs::Arrays::joins), unfolding(crate::specs::Cache::ticket_value))]
     pub fn ticket(&mut self, place: u32, ticket: &CredView<'_>) -> Result<(), NoMemory>
         ensures { OnOk result (self.new
             ≡ self.old ++ json_tokens (ticket_value (place, ticket.now))) }
@@ -116,7 +120,7 @@ impl<A: Allocator> Piece<A> {
     // Writes the principal that a configuration entry is about, or null if it has none.
     fn about(&mut self, principal: Option<&[u8]>) -> Result<(), NoMemory>
         ensures { OnOk result (self.new
-            ≡ self.old ++ member_tokens (about_member (option_copied principal.entry))) }
+            ≡ self.old ++ member_tokens (text_or_null_member (codes "principal") (option_copied principal.entry))) }
     {
         match principal {
             Some(text) => self.text(Label::Principal, text),

@@ -4,7 +4,7 @@ pub use Rattle.std.proofs.lemmas.Bool.{cond_both}
 pub use Rattle.std.proofs.lemmas.List.{drop_all, take-append-drop, take-take, nil_from_length}
 pub use Rattle.std.proofs.lemmas.Result.{err_from_is_err_and}
 pub use Rattle.std.specs.Io.KnownBytes.{IsAtEnd, Keeps, Consumes}
-pub use Rattle.std.specs.List.{onto_first, filter_map}
+pub use Rattle.std.specs.List.{onto_first, filter_map, AllByRecursion}
 pub use Rattle.std.specs.Prelude.{slice_range, IfSome, max, ◌&&◌, ◌||◌, option_map, ◌==◌, reverse}
 pub use Rattle.krb_ktutil.specs.InputLines.{HasNone, Grows, lines_of, InputParts, IsFirst, IsWithin, IsSpent, CutsOff, HasNoMore, ReadsLine, with_newlines}
 pub use Rattle.krb_ktutil.specs.KtutilCommand.{Awaited, options_in, AwaitKey, asks_for_password, Command, WriteFile, after, command_of, ReadFile, with_option, columns_in, AddOptions, is_new_key, plain_columns, has_password, no_options, words, unindented, size_from, word_size, trimmed, parts_from, is_word, is_blank, fault_error}
@@ -13,13 +13,13 @@ pub use Rattle.krb_ktutil.specs.KtutilTalk.{Prompts, prompt_of, PromptsOn, Talk,
 pub use Rattle.krb_ktutil.specs.declared.ktutil.awaiting.Awaiting.{Awaiting}
 pub use Rattle.krb_ktutil.specs.declared.ktutil.awaiting.Awaiting.TheVariants.{Nothing, Key}
 pub use Rattle.krb_driver.proofs.Shown.{end_status-none, Writes-nothing}
-pub use Rattle.krb_driver.specs.Commands.{Fails, Effect}
+pub use Rattle.krb_driver.specs.Commands.{Fails, Effect, Finishes}
 pub use Rattle.krb_driver.specs.Runs.{ErrorWatch, ReportsEnd}
 pub use Rattle.krb_driver.specs.FileNames.{is_other_type, bare_name, has_type}
 pub use Rattle.krb_driver.specs.Loading.{keytab_or_empty, keytab_in, EndsLoads, GivesOrIsSpent}
 pub use Rattle.krb_driver.specs.RunErrors.{error_status, input_error, end_status}
 pub use Rattle.krb_files.specs.Bytes.{is_failed, Source}
-pub use Rattle.krb_files.specs.Loading.{Answer, most_bytes}
+pub use Rattle.krb_files.specs.Loading.{Answer, most_bytes, TurnsHold}
 pub use Rattle.krb_files.specs.Plan.{Ends, Loads, follow, by, Holds}
 pub use Rattle.krb_files.specs.declared.files.Files.{Ghosts}
 pub use Rattle.krb_keytab.specs.Entry.{EntryParts, entry_at}

@@ -1,6 +1,5 @@
 -- Lines that were read from an input, which is split at newlines.
-use Rattle.krb_ktutil.proofs.Cited.{◌==◌, false, onto_first, ◌≡◌, ℕ, ◌+◌, ◌-◌, ◌<◌, ◌≤◌, List, [], ◌∷◌, ◌++◌, length, take, drop, Option, Some, refl, sym, ap, subst, ◌∙◌, arith, length-append, append_assoc, append-nil, take-add, slice_range, lines_of, HasNone, Grows, drop-drop, Keeps, take-append-drop, take-take, IsFirst, inl, inr, IfSome, length-drop, nat_lt, IsAtEnd, drop_all, InputParts, ReadsLine, AreFirst, nil_from_length, common_steps, Consumes-trans, true, Consumes, with_newlines, flat_map-append, IsSpent, IsWithin, HasNoMore, CutsOff, most_bytes, ◌⊎◌, nat_tests}
-use Rattle.std.specs.List.{AllByRecursion}
+use Rattle.krb_ktutil.proofs.Cited.{◌==◌, false, onto_first, ◌≡◌, ℕ, ◌+◌, ◌-◌, ◌<◌, ◌≤◌, List, [], ◌∷◌, ◌++◌, length, take, drop, Option, Some, refl, sym, ap, subst, ◌∙◌, arith, length-append, append_assoc, append-nil, take-add, slice_range, lines_of, HasNone, Grows, drop-drop, Keeps, take-append-drop, take-take, IsFirst, inl, inr, IfSome, length-drop, nat_lt, IsAtEnd, drop_all, InputParts, ReadsLine, AreFirst, nil_from_length, common_steps, Consumes-trans, true, Consumes, with_newlines, flat_map-append, IsSpent, IsWithin, HasNoMore, CutsOff, most_bytes, ◌⊎◌, nat_tests, AllByRecursion}
 use Rattle.krb_wire.proofs.Lists.{all_front, all_join}
 use Rattle.std.proofs.lemmas.List.Folds.{drop_split}
 

@@ -1,7 +1,6 @@
 -- What a line of ktutil leaves, and that it is handled as is due over honest files.
-use Rattle.krb_ktutil.proofs.Cited.{◌≡◌, inl, inr, ℕ, Bool, true, false, List, [], ◌∷◌, length, refl, sym, arith, Result, KeytabState, Ghosts, Ends, LineFault, Effect, Awaited, words, Awaiting, KtutilState, Came, line_faults, plan_of, Answer, Holds, Loads, by, follow, bare_name, is_other_type, keytab_in, Command, ReadFile, WriteFile, command_of, LinePlan, with_entries, command_plan, plan_by, words_plan, MakesLine, Spares, cond_both, ComesDue, HandlesLine, HandlesNext, goes_on, ◌&&◌, not, Lasts, Some, Talk, comes, max, loaded-lasts, RunError, Keytab, finishes-keeps, finishes-lasts}
+use Rattle.krb_ktutil.proofs.Cited.{◌≡◌, inl, inr, ℕ, Bool, true, false, List, [], ◌∷◌, length, refl, sym, arith, Result, KeytabState, Ghosts, Ends, LineFault, Effect, Awaited, words, Awaiting, KtutilState, Came, line_faults, plan_of, Answer, Holds, Loads, by, follow, bare_name, is_other_type, keytab_in, Command, ReadFile, WriteFile, command_of, LinePlan, with_entries, command_plan, plan_by, words_plan, MakesLine, Spares, cond_both, ComesDue, HandlesLine, HandlesNext, goes_on, ◌&&◌, not, Lasts, Some, Talk, comes, max, loaded-lasts, RunError, Keytab, finishes-keeps, finishes-lasts, Finishes}
 use Rattle.krb_driver.specs.declared.command.RunEnd.{RunEnd}
-use Rattle.krb_driver.specs.Commands.{Finishes}
 
 -- ---- what lines leave
 

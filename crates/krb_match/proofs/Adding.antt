@@ -1,9 +1,5 @@
 -- One more ticket that is looked at.
-use Rattle.krb_match.proofs.Cited.{◌≡◌, ◌∙◌, sym, arith, ℕ, Bool, cond, List, [], ◌∷◌, ◌++◌, map, append_assoc, append-nil, Option, None, option_or, PlacedEntry}
-use Rattle.krb_ccache.specs.Store.{PlacedCredential}
-use Rattle.krb_match.specs.Looking.{AreMatched}
-use Rattle.krb_match.specs.Match.{name_of}
-use Rattle.krb_match.specs.Tickets.{MatchedParts, first_near, matched, near_by, said}
+use Rattle.krb_match.proofs.Cited.{◌≡◌, ◌∙◌, sym, arith, ℕ, Bool, cond, List, [], ◌∷◌, ◌++◌, map, append_assoc, append-nil, Option, None, option_or, PlacedEntry, PlacedCredential, AreMatched, name_of, MatchedParts, first_near, matched, near_by, said}
 
 pub added : (wanted : Bool) (xs : List PlacedEntry) (x : PlacedCredential) (rest all : List PlacedCredential) (old new : List MatchedParts) (near next : Option ℕ) → AreMatched wanted xs (x ∷ rest) all old near → new ≡ old ++ matched xs x ∷ [] → next ≡ option_or near (cond wanted (near_by xs (name_of x.1) (said xs x.1)) None) → AreMatched wanted xs rest all new next
 added wanted xs x rest all old new near next h tickets_are next_is = search (arith, append_assoc)

@@ -1,16 +1,10 @@
 -- The first of entries that pass a test.
-use Rattle.krb_match.proofs.Cited.{◌≡◌, ◌∙◌, ap, refl, arith, ◌<◌, Bool, List, [], ◌∷◌, ◌||◌, ◌&&◌, Some, option_map, filter, find, is_some, list_any, AllByRecursion, PlacedEntry, Rises, earlier, first_of}
-use Rattle.std.proofs.lemmas.Bool.{le-ltb, lt-ltb}
+use Rattle.krb_match.proofs.Cited.{◌≡◌, ◌∙◌, ap, refl, arith, ◌<◌, Bool, List, [], ◌∷◌, ◌||◌, ◌&&◌, Some, option_map, filter, find, is_some, list_any, AllByRecursion, PlacedEntry, Rises, earlier, first_of, le-ltb, lt-ltb}
 
 -- of those that pass another test
 pub find_filter : {X : Type 0} (t q : X → Bool) (xs : List X) → find q (filter t xs) ≡ find (λ x. t x && q x) xs
 find_filter t q [] = refl
 find_filter t q (x ∷ xs) = grind (arith, find_filter t q xs)
-
--- one is found iff one passes
-pub some_found : {X : Type 0} (t : X → Bool) (xs : List X) → is_some (find t xs) ≡ list_any t xs
-some_found t [] = refl
-some_found t (x ∷ xs) = grind (arith, some_found t xs)
 
 -- ---- of two tests
 

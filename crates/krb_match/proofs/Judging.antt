@@ -1,14 +1,5 @@
 -- What is said of a ticket, by the number of its name.
-use Rattle.krb_match.proofs.Cited.{◌≡◌, ◌∙◌, sym, ap, refl, arith, ℕ, Bool, true, false, List, [], ◌∷◌, length, ◌==◌, ◌||◌, ◌&&◌, Option, Some, None, option_map, option_or, option_map_or, filter, find, fold, eqb-true, Parts, have_same_name, PlacedEntry, newest_version, asked_version, entry_etype, etypes_of, fits, judged_among, named, no_opener, opener, wanted, AreKeys, AreUnited, first_of, firsts_of, fitting_of, group_in, HasNumber, is_any, is_of, versions, with_entry, Fitting, Keys}
-use Rattle.std.proofs.lemmas.Slice.Eq.{bytes_eq-Decides}
-use Rattle.krb_ccache.specs.declared.ticket.TicketEncryption.{TicketEncryption}
-use Rattle.krb_copy.proofs.ClassKeys.{names_agree}
-use Rattle.krb_names.specs.Hash.{hash_of}
-use Rattle.krb_match.specs.Table.{is_in}
-use Rattle.krb_match.specs.Names.{entry_key, name_key}
-use Rattle.krb_match.specs.declared.judgement.Judgement.TheVariants.{Kvno, Etype, Opens}
-use Rattle.std.specs.Prelude.{slice_get}
-use Rattle.krb_match.proofs.Noting.{and-true}
+use Rattle.krb_match.proofs.Cited.{◌≡◌, ◌∙◌, sym, ap, refl, arith, ℕ, Bool, true, false, List, [], ◌∷◌, length, ◌==◌, ◌||◌, ◌&&◌, Option, Some, None, option_map, option_or, option_map_or, filter, find, fold, eqb-true, Parts, have_same_name, PlacedEntry, newest_version, asked_version, entry_etype, etypes_of, fits, judged_among, named, no_opener, opener, wanted, AreKeys, AreUnited, first_of, firsts_of, fitting_of, group_in, HasNumber, is_any, is_of, versions, with_entry, Fitting, Keys, TicketEncryption, names_agree, entry_key, name_key, is_in, Kvno, Etype, Opens, hash_of, bytes_eq-Decides, slice_get, and-true}
 use Rattle.krb_match.proofs.Finding.{find_filter, find_three}
 use Rattle.krb_match.proofs.Numbering.{some_named}
 use Rattle.krb_match.proofs.Found.{group_first, group_newest}

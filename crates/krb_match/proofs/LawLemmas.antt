@@ -1,17 +1,9 @@
 -- Which tickets are opened, and by which entry.
-use Rattle.krb_match.proofs.Cited.{◌≡◌, ◌∙◌, ap, ap₂, refl, arith, ℕ, Bool, cond, List, [], ◌∷◌, ◌==◌, ◌||◌, ◌&&◌, Option, Some, None, filter, find, list_any, is_some, ne_eqb, PlacedEntry, placed_entries, have_same_name, asked_version, entry_etype, fits, judged, judged_among, named, opener, opener_among}
-use Rattle.std.specs.Prelude.{◌≢◌, pos, Result, Ok, Err}
-use Rattle.krb_ccache.specs.declared.ticket.TicketEncryption.{TicketEncryption}
+use Rattle.krb_match.proofs.Cited.{◌≡◌, ◌∙◌, ap, ap₂, refl, arith, ℕ, Bool, cond, List, [], ◌∷◌, ◌==◌, ◌||◌, ◌&&◌, Option, Some, None, filter, find, list_any, is_some, ne_eqb, PlacedEntry, placed_entries, have_same_name, asked_version, entry_etype, fits, judged, judged_among, named, opener, opener_among, TicketEncryption, find_result, is_match, look_up_in, KeytabState, Ticket, Opens, ◌≢◌, pos, Result, Ok, Err, any_left, some_found}
 use Rattle.krb_walk.specs.declared.refusal.Code.{Code}
 use Rattle.krb_walk.specs.declared.refusal.Code.TheVariants.{Damaged}
-use Rattle.krb_keytab.specs.Find.{find_result, is_match, look_up_in}
-use Rattle.krb_keytab.specs.Store.{KeytabState}
-use Rattle.krb_match.specs.declared.judgement.Judgement.TheVariants.{Opens}
 use Rattle.krb_match.specs.Laws.{IsUnder, opens}
-use Rattle.krb_match.specs.Match.{Ticket}
 use Rattle.krb_match.proofs.Judging.{filter_filter}
-use Rattle.krb_match.proofs.Finding.{some_found}
-use Rattle.krb_match.proofs.Noting.{any_filter}
 
 -- ---- one fits
 
@@ -28,14 +20,14 @@ opens_among kvno etype [] = refl
 opens_among kvno etype (y ∷ ys) =
     let asked = asked_version kvno in
     let there = filter (λ x. x.1.enctype == etype) (y ∷ ys) in
-    grind (arith, some_opener asked there, any_filter (λ x. x.1.enctype == etype) (λ x. fits asked x.1.version) (y ∷ ys))
+    grind (arith, some_opener asked there, any_left (λ x. x.1.enctype == etype) (λ x. fits asked x.1.version) (y ∷ ys))
 
 -- the judgement of a ticket that is read
 judged_is : (xs : List PlacedEntry) (t : Ticket) (e : TicketEncryption) → IsUnder e t → judged xs t ≡ judged_among e (named t.name xs)
 judged_is xs t e u = ap₂ (λ (n : ℕ) (o : Option TicketEncryption). judged xs (record { is_skey = n; encryption = o; name = t.name })) u.own u.encryption
 
 pub one_fits : (xs : List PlacedEntry) (t : Ticket) (kvno : Option ℕ) (etype : ℕ) → IsUnder (record { etype = pos etype; kvno = kvno }) t → opens (judged xs t) ≡ list_any (λ x. have_same_name t.name x.1.principal && (x.1.enctype == etype && fits (asked_version kvno) x.1.version)) xs
-one_fits xs t kvno etype u = search (arith, judged_is, opens_among, any_filter)
+one_fits xs t kvno etype u = search (arith, judged_is, opens_among, any_left)
 
 -- ---- found
 

@@ -8,5 +8,6 @@ pub mod Judging
 pub mod LawLemmas
 pub mod Adding
 pub mod Positions
+pub mod ForAnswers
 pub mod OnLiterals
 mod Samples

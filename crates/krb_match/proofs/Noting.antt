@@ -1,33 +1,13 @@
 -- Entries are noted in their groups one after the other.
-use Rattle.krb_match.proofs.Cited.{◌≡◌, ◌∙◌, sym, ap, refl, arith, ℕ, Bool, true, false, cond, List, [], ◌∷◌, ◌++◌, Option, Some, None, ◌==◌, ◌&&◌, not, eqb-true, filter-append, fold-append, fold, list_any, filter, find, is_some, length, option_map, unwrap_or, BTreeMap, get, Updates, stamp_of, first_of, Parts, have_same_name, PlacedEntry, AreNoted, ArePlaced, ClassKey, is_in, placed_in, same_class, entry_key, find-append, option_or, IsNumbered, name_key, bytes_eq, get_or, Group, GroupKey, IsNoted, firsts_of, group_cmp, group_in, grown, is_any, is_of, same_key, seen_group, with_entry, IsAdded, is_first_in}
-use Rattle.std.specs.Option.{option_cmp, option_eq}
+use Rattle.krb_match.proofs.Cited.{◌≡◌, ◌∙◌, sym, ap, refl, arith, ℕ, Bool, true, false, cond, List, [], ◌∷◌, ◌++◌, Option, Some, None, ◌==◌, ◌&&◌, not, eqb-true, filter-append, fold-append, fold, list_any, filter, find, is_some, length, option_map, unwrap_or, BTreeMap, get, Updates, stamp_of, first_of, Parts, have_same_name, PlacedEntry, AreNoted, ArePlaced, ClassKey, is_in, placed_in, same_class, entry_key, find-append, option_or, IsNumbered, name_key, bytes_eq, get_or, Group, GroupKey, IsNoted, firsts_of, group_cmp, group_in, grown, is_any, is_of, same_key, seen_group, with_entry, IsAdded, is_first_in, names_agree, hash_of, nat_tests, get_or_default, Any-from_list_any, bytes_eq-Decides, option_cmp, option_eq, nat_eq, any_left, some_found}
 use Rattle.std.specs.Ordering.{nat_cmp, is_eq}
-use Rattle.std.specs.Prelude.{nat_eq}
-use Rattle.std.proofs.lemmas.Bool.Decides.{nat_tests}
-use Rattle.std.proofs.lemmas.List.{get_or_default}
-use Rattle.std.proofs.lemmas.List.Folds.{Any-from_list_any}
-use Rattle.std.proofs.lemmas.Slice.Eq.{bytes_eq-Decides}
 use denote.Ref.{Bor}
-use Rattle.krb_names.specs.Hash.{hash_of}
-use Rattle.krb_copy.proofs.ClassKeys.{names_agree}
-use Rattle.krb_match.proofs.Finding.{some_found}
 use Rattle.krb_match.proofs.Found.{group_first}
 
 -- ---- folds
 
 fold_push : {X V : Type 0} (step : V → X → V) (t : X → Bool) (v : V) (xs : List X) (x : X) → fold step v (filter t (xs ++ x ∷ [])) ≡ cond (t x) (step (fold step v (filter t xs)) x) (fold step v (filter t xs))
 fold_push step t v xs x = grind (arith, filter-append t xs (x ∷ []), fold-append step v (filter t xs))
-
-pub any_filter : {X : Type 0} (t q : X → Bool) (xs : List X) → list_any q (filter t xs) ≡ list_any (λ x. t x && q x) xs
-any_filter t q [] = refl
-any_filter t q (x ∷ xs) = grind (arith, any_filter t q xs)
-
-pub and-true : (b : Bool) → (b && true) ≡ b
-and-true b = grind arith
-
-pub not_false : (b : Bool) → not b ≡ false → b ≡ true
-not_false true e = refl
-not_false false e = absurd cc
 
 -- the enctypes of a group are those of its entries
 any_first : (t : ℕ → Bool) (ys : List PlacedEntry) → list_any (λ f. t f.1) (firsts_of (fold with_entry None ys)) ≡ list_any (λ y. t y.1.enctype) ys
@@ -49,7 +29,7 @@ same_etypes : (p : Parts) (v e : Option ℕ) (n : ℕ) (xs : List PlacedEntry) �
 same_etypes p v e n xs any =
     let of : Option ℕ → List PlacedEntry = λ e. filter (is_of p v e) xs in
     none_there (firsts_of (fold with_entry None (of (Some n))))
-    ∙ ap not (any_first (λ m. true) (of (Some n)) ∙ any_filter (is_of p v (Some n)) (λ x. true) xs ∙ ap (λ (t : PlacedEntry → Bool). list_any t xs) (λ i x. with_etype p v e n x any i) ∙ sym (any_filter (is_of p v e) (λ x. x.1.enctype == n) xs) ∙ sym (any_first (λ m. m == n) (of e)))
+    ∙ ap not (any_first (λ m. true) (of (Some n)) ∙ any_left (is_of p v (Some n)) (λ x. true) xs ∙ ap (λ (t : PlacedEntry → Bool). list_any t xs) (λ i x. with_etype p v e n x any i) ∙ sym (any_left (is_of p v e) (λ x. x.1.enctype == n) xs) ∙ sym (any_first (λ m. m == n) (of e)))
 
 -- ---- the maps
 

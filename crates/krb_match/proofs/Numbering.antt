@@ -1,6 +1,5 @@
 -- The numbers of names: their places in a set.
-use Rattle.krb_match.proofs.Cited.{◌≡◌, ◌∙◌, sym, refl, arith, ap, get_or, take, drop, length, ◌-◌, take_all, ℕ, Bool, true, false, List, [], ◌∷◌, ◌++◌, map, filter, list_any, bytes_eq, Parts, PlacedEntry, same_equiv, HaveSameNames, entry_key, has_name, is_among, name_key}
-use Rattle.krb_copy.proofs.ClassKeys.{names_agree}
+use Rattle.krb_match.proofs.Cited.{◌≡◌, ◌∙◌, sym, refl, arith, ap, get_or, take, drop, length, ◌-◌, take_all, ℕ, Bool, true, false, List, [], ◌∷◌, ◌++◌, map, filter, list_any, bytes_eq, Parts, PlacedEntry, same_equiv, HaveSameNames, entry_key, has_name, is_among, name_key, names_agree}
 
 any_key : (p : Parts) (xs : List PlacedEntry) → list_any (bytes_eq (name_key p)) (map entry_key xs) ≡ has_name p xs
 any_key p [] = refl

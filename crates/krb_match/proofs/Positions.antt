@@ -1,7 +1,5 @@
 -- The first elements that pass tests.
-use Rattle.std.proofs.lemmas.Bool.Decides.{nat_tests}
-use Rattle.krb_match.proofs.Cited.{◌≡◌, arith, ℕ, ◌+◌, ◌≤◌, Bool, false, List, [], ◌∷◌, map, ◌||◌, Some, None, list_any, position_from, refl}
-use Rattle.krb_match.specs.Near.{lesser}
+use Rattle.krb_match.proofs.Cited.{◌≡◌, arith, ℕ, ◌+◌, ◌≤◌, Bool, false, List, [], ◌∷◌, map, ◌||◌, Some, None, list_any, position_from, refl, lesser, nat_tests}
 
 pub none_found : {X : Type 0} (t : X → Bool) (i : ℕ) (xs : List X) → list_any t xs ≡ false → None ≡ position_from t i xs
 none_found t i [] none = refl

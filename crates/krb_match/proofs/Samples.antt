@@ -1,11 +1,6 @@
 -- Worked samples of the definitions: a keytab with host/a@R and b@R, each in version 3 with enctype 17.
-use Rattle.std.specs.Prelude.{◌≡◌, ℕ, List, [], ◌∷◌, ◌++◌, codes, pos, Option, None, Some}
-use Rattle.krb_match.proofs.Cited.{refl, Parts, PlacedEntry, judged}
+use Rattle.krb_match.proofs.Cited.{refl, Parts, PlacedEntry, judged, TicketEncryption, Ticket, judgement_line, name_text, ◌≡◌, ℕ, List, [], ◌∷◌, ◌++◌, codes, pos, Option, None, Some}
 use Rattle.krb_match.proofs.OnLiterals.{krb_match_on_literals}
-use Rattle.krb_match.specs.Match.{Ticket}
-use Rattle.krb_match.specs.Said.{judgement_line}
-use Rattle.krb_wire.specs.Names.{name_text}
-use Rattle.krb_ccache.specs.declared.ticket.TicketEncryption.{TicketEncryption}
 
 abbrev in_realm : List (List ℕ) → Parts
 in_realm components = record { name_type = 1; realm = codes "R"; components = components }

@@ -6,17 +6,13 @@ use Rattle.krb_keytab.specs.Find.{PlacedEntry, find_result, placed_entries}
 use Rattle.krb_keytab.specs.Store.{KeytabState}
 use Rattle.krb_ccache.specs.declared.ticket.TicketEncryption.{TicketEncryption}
 use Rattle.krb_match.specs.declared.judgement.Judgement.{Judgement}
-use Rattle.krb_match.specs.declared.judgement.Judgement.TheVariants.{User, Unread, Name, Kvno, Etype, Opens}
+use Rattle.krb_match.specs.declared.judgement.Judgement.TheVariants.{Opens}
 use Rattle.krb_match.specs.Match.{Ticket, asked_version, fits, judged}
 
 -- an entry opens the ticket
 abbrev pub opens : Judgement → Bool
-opens User = false
-opens Unread = false
-opens Name = false
-opens (Kvno newest) = false
-opens (Etype etypes) = false
 opens (Opens place) = true
+opens judgement = false
 
 -- the ticket's encryption is this, and it is under no session key
 pub record IsUnder (e : TicketEncryption) (t : Ticket) : Type 0 where

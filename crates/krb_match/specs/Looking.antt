@@ -31,6 +31,10 @@ pub record JudgesBy {A : Type 0} (asked : AskedParts) (wanted : Bool) (xs : List
 abbrev pub IsJudge : {A B : Type 0} → AskedParts → Bool → List PlacedEntry → Judge A B → Type 0
 IsJudge asked wanted xs judge = JudgesBy asked wanted xs judge.names judge.asks judge.classes.now judge.keys judge.near.now
 
+-- a judge stays one
+abbrev pub StaysJudge : {A B : Type 0} → Judge A B → Judge A B → Type 0
+StaysJudge old new = (asked : AskedParts) (wanted : Bool) (xs : List PlacedEntry) → IsJudge asked wanted xs old → IsJudge asked wanted xs new
+
 -- a ticket that is looked at, or nothing
 abbrev pub IsSaid : AskedParts → List PlacedEntry → PlacedCredential → Option MatchedParts → Type 0
 IsSaid asked xs c None = is_looked_at asked xs c.1 ≡ false

@@ -61,10 +61,7 @@ pub fn firsts<A: Allocator>(groups: &Groups<A>, key: GroupKey) -> &[(u32, u32)]
 pub fn newest<A: Allocator>(groups: &Groups<A>, key: GroupKey) -> u32
     ensures { result ≡ option_map_or (λ g. g.0.kvno) (group_in groups.now key) 0 }
 {
-    match groups.get(&key) {
-        Some(group) => group.newest.kvno,
-        None => 0,
-    }
+    groups.get(&key).map_or(0, |group| group.newest.kvno)
 }
 
 // Adds an entry to a group, and returns whether it is the first of its enctype: that given, or else whether none was before.

@@ -73,19 +73,13 @@ impl Judgement {
     pub fn word(&self) -> &'static str
         ensures { result.now ≡ word_of self.now }
     {
-        match self.finding() {
-            Some(finding) => finding.row().word,
-            None => "opens",
-        }
+        self.finding().map_or("opens", |finding| finding.row().word)
     }
 
     /// Returns whether it counts for the status: the keytab does not open the ticket, though a keytab could.
     pub fn is_wrong(&self) -> bool
         ensures { result ≡ is_wrong self.now }
     {
-        match self.finding() {
-            Some(finding) => finding.row().counts,
-            None => false,
-        }
+        self.finding().is_some_and(|finding| finding.row().counts)
     }
 }

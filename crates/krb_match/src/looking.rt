@@ -7,7 +7,7 @@ ghost use Rattle.krb_keytab.specs.Find.{PlacedEntry, placed_entries};
 ghost use Rattle.krb_ccache.specs.Ticket.{ticket_encryption};
 ghost use Rattle.krb_ccache.specs.Store.{PlacedCredential, placed_credentials};
 ghost use Rattle.krb_names.specs.Asked.{AskedParts};
-ghost use Rattle.krb_match.specs.Looking.{AreMatched, IsJudge, IsNear, IsSaid};
+ghost use Rattle.krb_match.specs.Looking.{AreMatched, IsJudge, IsNear, IsSaid, StaysJudge};
 ghost use Rattle.krb_match.specs.Match.{has_name, judged, judged_among, name_of, named, ticket_of};
 ghost use Rattle.krb_match.specs.Names.{name_key};
 ghost use Rattle.krb_match.specs.Table.{AreKeys};
@@ -51,8 +51,7 @@ struct Judge<'m, 'k, 't, A: Allocator, B: Allocator> {
 impl<'k, A: Allocator + Copy, B: Allocator> Judge<'_, 'k, '_, A, B> {
     // Returns the entries by all that tickets ask for.
     fn take_keys(&mut self) -> Result<Keys<'k, A>, NoMemory>
-        ensures kept { (asked : AskedParts) (wanted : Bool) (xs : List PlacedEntry) → IsJudge asked wanted xs self.old
-            → IsJudge asked wanted xs self.new }
+        ensures kept { StaysJudge self.old self.new }
         ensures keys { (asked : AskedParts) (wanted : Bool) (xs : List PlacedEntry) → IsJudge asked wanted xs self.old
             → IfOk result (AreKeys xs) }
     {
@@ -64,8 +63,7 @@ impl<'k, A: Allocator + Copy, B: Allocator> Judge<'_, 'k, '_, A, B> {
 
     // Returns whether an entry has the name with that key.
     fn has(&mut self, key: &[u8]) -> Result<bool, NoMemory>
-        ensures kept { (asked : AskedParts) (wanted : Bool) (xs : List PlacedEntry) → IsJudge asked wanted xs self.old
-            → IsJudge asked wanted xs self.new }
+        ensures kept { StaysJudge self.old self.new }
         ensures has { (asked : AskedParts) (wanted : Bool) (xs : List PlacedEntry) (p : Parts)
             → IsJudge asked wanted xs self.old → key.now ≡ name_key p → IfOk result (λ b. b ≡ has_name p xs) }
     {
@@ -82,8 +80,7 @@ impl<'k, A: Allocator + Copy, B: Allocator> Judge<'_, 'k, '_, A, B> {
         name: &N,
         key: &[u8],
     ) -> Result<bool, NoMemory>
-        ensures kept { (asked : AskedParts) (wanted : Bool) (xs : List PlacedEntry) → IsJudge asked wanted xs self.old
-            → IsJudge asked wanted xs self.new }
+        ensures kept { StaysJudge self.old self.new }
         ensures asked { (asked : AskedParts) (wanted : Bool) (xs : List PlacedEntry) → IsJudge asked wanted xs self.old
             → N.parts name.now ≡ name_of ticket.now → key.now ≡ name_key (N.parts name.now)
             → IfOk result (λ b. b ≡ is_asked asked xs ticket.now) }
@@ -103,8 +100,7 @@ impl<'k, A: Allocator + Copy, B: Allocator> Judge<'_, 'k, '_, A, B> {
         encryption: TicketEncryption,
         key: &[u8],
     ) -> Result<Judgement, NoMemory>
-        ensures kept { (asked : AskedParts) (wanted : Bool) (xs : List PlacedEntry) → IsJudge asked wanted xs self.old
-            → IsJudge asked wanted xs self.new }
+        ensures kept { StaysJudge self.old self.new }
         ensures said { (asked : AskedParts) (wanted : Bool) (xs : List PlacedEntry) (p : Parts)
             → IsJudge asked wanted xs self.old → key.now ≡ name_key p
             → IfOk result (λ j. j ≡ judged_among encryption (named p xs)) }
@@ -125,8 +121,7 @@ impl<'k, A: Allocator + Copy, B: Allocator> Judge<'_, 'k, '_, A, B> {
         encryption: Option<TicketEncryption>,
         key: &[u8],
     ) -> Result<Judgement, NoMemory>
-        ensures kept { (asked : AskedParts) (wanted : Bool) (xs : List PlacedEntry) → IsJudge asked wanted xs self.old
-            → IsJudge asked wanted xs self.new }
+        ensures kept { StaysJudge self.old self.new }
         ensures said { (asked : AskedParts) (wanted : Bool) (xs : List PlacedEntry) (p : Parts)
             → IsJudge asked wanted xs self.old → key.now ≡ name_key p → encryption ≡ ticket_encryption ticket.now.ticket
             → IfOk result (λ j. j ≡ judged xs (ticket_of ticket.now p)) }
@@ -148,8 +143,7 @@ impl<'k, A: Allocator + Copy, B: Allocator> Judge<'_, 'k, '_, A, B> {
         name: &N,
         encryption: Option<TicketEncryption>,
     ) -> Result<Option<MatchedTicket<A>>, NoMemory>
-        ensures kept { (asked : AskedParts) (wanted : Bool) (xs : List PlacedEntry) → IsJudge asked wanted xs self.old
-            → IsJudge asked wanted xs self.new }
+        ensures kept { StaysJudge self.old self.new }
         ensures said { (asked : AskedParts) (wanted : Bool) (xs : List PlacedEntry) → IsJudge asked wanted xs self.old
             → N.parts name.now ≡ name_of ticket.now → encryption ≡ ticket_encryption ticket.now.ticket
             → IfOk result (IsSaid asked xs (place, ticket.now)) }
@@ -198,8 +192,7 @@ impl<A: Allocator + Copy> Matched<A> {
         name: &N,
         encryption: Option<TicketEncryption>,
     ) -> Result<(), NoMemory>
-        ensures kept { (asked : AskedParts) (wanted : Bool) (xs : List PlacedEntry) → IsJudge asked wanted xs judge.old
-            → IsJudge asked wanted xs judge.new }
+        ensures kept { StaysJudge judge.old judge.new }
         ensures matched { (asked : AskedParts) (wanted : Bool) (xs : List PlacedEntry) (rest all : List PlacedCredential)
             → IsJudge asked wanted xs judge.old
             → N.parts name.now ≡ name_of ticket.now → encryption ≡ ticket_encryption ticket.now.ticket
@@ -222,8 +215,7 @@ impl<A: Allocator + Copy> Matched<A> {
         place: u32,
         ticket: &CredView<'_>,
     ) -> Result<(), NoMemory>
-        ensures kept { (asked : AskedParts) (wanted : Bool) (xs : List PlacedEntry) → IsJudge asked wanted xs judge.old
-            → IsJudge asked wanted xs judge.new }
+        ensures kept { StaysJudge judge.old judge.new }
         ensures matched { (asked : AskedParts) (wanted : Bool) (xs : List PlacedEntry) (rest all : List PlacedCredential)
             → IsJudge asked wanted xs judge.old
             → AreMatched wanted xs (looked_at asked xs ((place, ticket.now) ∷ rest)) all self.old.tickets.items self.old.near

@@ -1,10 +1,7 @@
 -- What ktcheck shows of a file, as JSON, and of one that gave no keytab.
-use Rattle.krb_readers.proofs.Cited.{arith, ◌≡◌, ℕ, KeytabCheck, List, ap, Bool, true, false, IsFalse, Ok, Err, CheckParts, EndsAfter, ShowsPage, output_error, verdict_status, Appends-nil, AppendsPrefix-none, Watch, OutFault, Ends, check_json_text, Prints, found_verdict, is_silent, object_page, refused_effect, Displays, Page, Result, makes-end, FileName, Ghosts}
+use Rattle.krb_readers.proofs.Cited.{arith, ◌≡◌, ℕ, KeytabCheck, List, ap, Bool, true, false, IsFalse, Ok, Err, CheckParts, EndsAfter, ShowsPage, output_error, verdict_status, Appends-nil, AppendsPrefix-none, Watch, OutFault, Ends, check_json_text, Prints, found_verdict, is_silent, object_page, refused_effect, Displays, Page, Result, makes-end, FileName, Ghosts, Effect, IsMade, MakesFairly, any, tries, Tries, FindingSet}
 use Rattle.krb_files.specs.Loading.{Answer}
-use Rattle.krb_driver.specs.Commands.{Effect, IsMade, MakesFairly, any, tries}
-use Rattle.krb_driver.specs.Composing.{Tries}
 use Rattle.krb_driver.specs.declared.error.RunError.{RunError}
-use Rattle.krb_findings.specs.declared.finding_set.FindingSet.{FindingSet}
 use Rattle.krb_driver.specs.declared.error.RunError.TheVariants.{NoMemory}
 use Rattle.krb_driver.specs.declared.verdict.Verdict.{Verdict}
 use Rattle.krb_readers.proofs.Listed.{ShowsPage-done, ShowsPage-failed, line-some}

@@ -1,45 +1,24 @@
 -- The latest end of tickets.
-use Rattle.krb_readers.proofs.Cited.{◌≡◌, ◌∙◌, ap, sym, ℕ, List, [], ◌∷◌, Bool, false, refl, arith, PlacedCredential, placed_credentials}
-use Rattle.std.specs.Prelude.{Option, None, Some, nat_lt, filter, ◌||◌}
-use Rattle.std.specs.List.{list_any}
+use Rattle.krb_readers.proofs.Cited.{◌≡◌, ◌∙◌, ap, sym, ℕ, List, [], ◌∷◌, Bool, false, refl, arith, PlacedCredential, placed_credentials, Option, None, Some, nat_lt, filter, ◌||◌, list_any, has_ticket, is_valid_after, last_end, later, latest, CacheState}
 use Rattle.std.specs.Option.{option_map_or, option_or}
 use Rattle.krb_audit.specs.GoingOn.{first_of, is_tgt, is_ticket, looked_at}
-use Rattle.krb_readers.specs.Klist.{has_ticket, is_valid_after, last_end, later, latest}
-use Rattle.krb_ccache.specs.Store.{CacheState}
-
--- a time after another one is there
-is_there : (time : ℕ) (other otherwise : Option ℕ) → option_or (later (Some time) other) otherwise ≡ later (Some time) other
-is_there time None otherwise = refl
-is_there time (Some other) otherwise = refl
 
 -- the latest end of the tickets that come first
 of_first : (tgts tickets : List PlacedCredential) → option_or (latest tgts) (latest tickets) ≡ latest (first_of tgts tickets)
 of_first [] tickets = refl
-of_first (x ∷ xs) tickets = grind (arith, is_there x.1.times.endtime (latest xs) (latest tickets))
-
--- what is later than no time
-alone : (time : Option ℕ) → later time None ≡ time
-alone None = refl
-alone (Some time) = refl
+of_first (x ∷ xs) tickets = grind arith
 
 -- once all tickets are seen
 pub of_seen : (k : CacheState) (tgt ticket : Option ℕ)
     → later tgt None ≡ latest (filter (is_tgt k.principal.realm) (placed_credentials k))
     → later ticket None ≡ latest (filter is_ticket (placed_credentials k)) → option_or tgt ticket ≡ last_end k
 of_seen k tgt ticket is_tgt_end is_end =
-    (λ i. option_or ((sym (alone tgt) ∙ is_tgt_end) i) ((sym (alone ticket) ∙ is_end) i))
-    ∙ of_first (filter (is_tgt k.principal.realm) (placed_credentials k)) (filter is_ticket (placed_credentials k))
-
--- the later of two times is after a third if one of them is
-after_later : (time end : ℕ) (other : Option ℕ) → option_map_or (λ t. nat_lt time t) (later (Some end) other) false ≡ (nat_lt time end || option_map_or (λ t. nat_lt time t) other false)
-after_later time end None = grind (arith)
-after_later time end (Some other) = grind (arith)
+    grind (arith, is_tgt_end, is_end, of_first (filter (is_tgt k.principal.realm) (placed_credentials k)) (filter is_ticket (placed_credentials k)))
 
 -- the latest end is after a second if one is
 after_latest : (time : ℕ) (xs : List PlacedCredential) → option_map_or (λ t. nat_lt time t) (latest xs) false ≡ list_any (is_valid_after time) xs
 after_latest time [] = refl
-after_latest time (x ∷ xs) =
-    after_later time x.1.times.endtime (latest xs) ∙ ap (λ (b : Bool). nat_lt time x.1.times.endtime || b) (after_latest time xs)
+after_latest time (x ∷ xs) = grind (arith, after_latest time xs)
 
 -- a cache has a ticket that is valid after a second if its last end is after it
 pub of_last : (time : ℕ) (last : Option ℕ) (k : CacheState) → last ≡ last_end k → option_map_or (λ t. nat_lt time t) last false ≡ has_ticket time k

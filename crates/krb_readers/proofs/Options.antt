@@ -1,10 +1,5 @@
 -- What the words of a command spell, one after the other.
-use Rattle.std.proofs.Common.{◌≡◌, ℕ, ◌+◌, ◌<◌, List, ◌∷◌, length, map, drop, get_or, fold, Bor, Option, None, Result, Ok, Err, refl, sym, ap, ◌∙◌}
-use Rattle.std.proofs.lemmas.List.{drop_more}
-use Rattle.krb_driver.specs.Loading.{result_map}
-use Rattle.krb_driver.specs.Mistakes.{MistakeParts}
-use Rattle.krb_driver.specs.Spelled.{◌>>=◌, ◌>>◌, each}
-use Rattle.std.specs.Result.{result_err}
+use Rattle.krb_readers.proofs.Cited.{arith, ◌≡◌, ℕ, ◌+◌, ◌<◌, List, ◌∷◌, length, map, drop, get_or, fold, Bor, Option, None, Result, Ok, Err, refl, sym, ap, ◌∙◌, drop_more, result_map, MistakeParts, ◌>>=◌, ◌>>◌, each, result_err}
 
 -- what follows two mistakes that are not there
 pub no_mistakes : {X : Type 0} (a b : Option MistakeParts) (then_ : Result X MistakeParts) → a ≡ None → b ≡ None → (a >> (b >> then_)) ≡ then_
@@ -16,20 +11,11 @@ two_words a b next x y ea eb = rw (ea, eb) refl
 
 -- a value that is put into another has its mistake
 pub put_err : {X Y : Type 0} (r : Result X MistakeParts) (put : X → Y) → result_err (r >>= (λ v. Ok (put v))) ≡ result_err r
-put_err (Ok v) put = refl
-put_err (Err m) put = refl
+put_err r put = grind arith
 
 module _ {X Y : Type 0} (g : Y → X → Y) (a : Y) where
-  fold_cons : (v : X) (s : Result (List X) MistakeParts) → result_map (fold g a) (s >>= (λ vs. Ok (v ∷ vs))) ≡ result_map (fold g (g a v)) s
-  fold_cons v (Ok vs) = refl
-  fold_cons v (Err m) = refl
-
   -- what the words that are left add to what is joined so far is what all spell; so it is after one more
   pub folds_left : (f : List ℕ → Result X MistakeParts) (words : List (Bor (List ℕ))) (i : ℕ) (d : Bor (List ℕ)) (v : X) (all : Result Y MistakeParts) → i < length words
       → f (get_or words i d).now ≡ Ok v → result_map (fold g a) (each f (map (λ word. word.now) (drop i words))) ≡ all
       → result_map (fold g (g a v)) (each f (map (λ word. word.now) (drop (i + 1) words))) ≡ all
-  folds_left f words i d v all below is left =
-      let rest = each f (map (λ word. word.now) (drop (i + 1) words)) in
-      sym (fold_cons v rest)
-      ∙ ap (λ (r : Result X MistakeParts). result_map (fold g a) (r >>= (λ v. rest >>= (λ vs. Ok (v ∷ vs))))) (sym is)
-      ∙ ap (λ (ws : List (Bor (List ℕ))). result_map (fold g a) (each f (map (λ word. word.now) ws))) (sym (drop_more words i d below)) ∙ left
+  folds_left f words i d v all below is left = grind (arith, drop_more words i d below, is, left)

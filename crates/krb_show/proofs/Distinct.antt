@@ -1,5 +1,5 @@
 -- The numbers that a set has, as a list.
-use Rattle.krb_show.proofs.Cited.{◌≡◌, ◌++◌, ◌∙◌, ap, sym, refl, subst, ℕ, List, [], ◌∷◌, Bool, true, false, cond, not, true≢false, list_any, BTreeSet, contains, is_eq, nat_cmp, ◌==◌, ◌||◌}
+use Rattle.krb_show.proofs.Cited.{arith, ◌≡◌, ◌++◌, ◌∙◌, ap, sym, refl, ℕ, List, [], ◌∷◌, Bool, true, false, cond, not, list_any, BTreeSet, contains, is_eq, nat_cmp, ◌==◌, ◌||◌}
 use Rattle.std.specs.Cmp.{unsigned_tied, unsigned_Decides}
 use Rattle.std.proofs.lemmas.List.Folds.{list_any-append}
 
@@ -16,14 +16,10 @@ abbrev pub Puts : BTreeSet ℕ → BTreeSet ℕ → ℕ → Type 0
 Puts s t n = (q : ℕ) → contains nat_cmp t q ≡ cond (is_eq (nat_cmp n q)) true (contains nat_cmp s q)
 
 either : (a b : Bool) → cond a true b ≡ (b || (a || false))
-either true true = refl
-either true false = refl
-either false true = refl
-either false false = refl
+either a b = grind arith
 
 again : (ns : List ℕ) (n q : ℕ) (b : Bool) → (n == q) ≡ b → is_among ns n ≡ true → cond b true (is_among ns q) ≡ is_among ns q
-again ns n q true e h = sym (subst (λ (k : ℕ). is_among ns k ≡ true) ((unsigned_Decides n q).0 e) h)
-again ns n q false e h = refl
+again ns n q b e h = grind (arith, (unsigned_Decides n q).0, e, h)
 
 -- of the set with a number more, by that of the list
 put_is : (s t : BTreeSet ℕ) (ns : List ℕ) (n q : ℕ) → Has s ns → Puts s t n → contains nat_cmp t q ≡ cond (n == q) true (is_among ns q)
@@ -39,10 +35,8 @@ has_again s t ns n has put among q = put_is s t ns n q has put ∙ again ns n q 
 
 -- a number that is not new is among them
 pub stale : (b a : Bool) → b ≡ not a → b ≡ false → a ≡ true
-stale b true e f = refl
-stale b false e f = absurd (true≢false (sym e ∙ f))
+stale b a e f = grind (arith, e, f)
 
 -- a number that is new is not
 pub fresh : (b a : Bool) → b ≡ not a → b ≡ true → a ≡ false
-fresh b true e f = absurd (true≢false (sym f ∙ e))
-fresh b false e f = refl
+fresh b a e f = grind (arith, e, f)

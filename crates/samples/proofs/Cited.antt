@@ -4,7 +4,7 @@ pub use Rattle.std.specs.List.{filter_map, list_any}
 pub use Rattle.std.specs.Prelude.{◌≡◌, ◌+◌, ℕ, [], ◌∷◌, map, codes, true, false, None, Some, Ok, Err, ◌-◌, ◌*◌, List, ◌++◌, nat_lt, if◌then◌else◌, max, length, Bool, Option, option_map, unwrap_or, Result, slice_get, nat_eq, filter, ◌&&◌, replicate, pos, negsuc, ⊤}
 pub use Rattle.krb_audit.specs.declared.selection.SelectedKvno.TheVariants.{Beyond}
 pub use Rattle.krb_driver.specs.declared.verdict.Verdict.TheVariants.{Without, Well}
-pub use Rattle.krb_editors.specs.Ccremove.{ended_by, ccremove_plan}
+pub use Rattle.krb_editors.specs.Ccremove.{ended_by, ccremove_plan, TicketRemoval, ticket_removal_of}
 pub use Rattle.krb_files.specs.Loading.{most_bytes}
 pub use Rattle.krb_keytab.specs.Store.{KeytabState, open_result, empty}
 pub use Rattle.krb_wire.specs.NameOf.{name_of}
@@ -26,8 +26,11 @@ pub use Rattle.krb_driver.specs.RunErrors.{Ending, ending_status, end_status, er
 pub use Rattle.krb_driver.specs.Runs.{ErrorWatch, ending_text, near_words, words_if}
 pub use Rattle.krb_editors.specs.MissingFiles.{is_missing, missing_error}
 pub use Rattle.krb_editors.specs.Removing.{is_none, seen_after}
-pub use Rattle.krb_editors.specs.Ktremove.{needed_time, ktremove_plan}
+pub use Rattle.krb_editors.specs.Ktremove.{needed_time, ktremove_plan, removal_of}
 pub use Rattle.krb_ktutil.specs.KtutilTalk.{first_talk, goes_on}
-pub use Rattle.krb_editors.specs.Hold.{most_frame, frame, held_in, received, file_kind as held_file_kind}
+pub use Rattle.krb_editors.specs.Hold.{most_frame, frame, held_in, received, file_kind as held_file_kind, hold_of}
 pub use Rattle.krb_ccache.specs.Store.{CacheState, open_result as cache_result, image_of as cache_image}
 pub use Rattle.krb_editors.specs.HoldEnds.{last_line, HoldEnd, about_end, ending_of as end_of_hold}
+pub use Rattle.krb_driver.specs.Commands.{CommandPlan, of_file, Effect, Fails, Displays, Saves, files_after, opens}
+pub use Rattle.krb_driver.specs.Loading.{result_map, result_map_err, whole_in}
+pub use Rattle.krb_driver.specs.EndingWords.{found_fault_words}

@@ -1,6 +1,6 @@
 -- How runs end, when they read the clock, and what hold takes: worked by hand from krbfile(1).
-use Rattle.samples.proofs.Cited.{refl, ◌≡◌, ◌+◌, ℕ, [], ◌∷◌, map, codes, true, false, None, Some, Ok, Err, Beyond, Without, Well, ended_by, most_bytes, node_of, RunEnd, FileNotWritten, NoSuchFile, FileName, Word, Default, Ending, ending_status, end_status, error_status, save_error, ErrorWatch, is_missing, is_none, seen_after, needed_time, first_talk, most_frame, last_line}
-use Rattle.krb_driver.specs.Commands.{CommandPlan, always, of_file}
+use Rattle.samples.proofs.Cited.{refl, ◌≡◌, ◌+◌, ℕ, [], ◌∷◌, map, codes, true, false, None, Some, Ok, Err, Beyond, Without, Well, ended_by, most_bytes, node_of, RunEnd, FileNotWritten, NoSuchFile, FileName, Word, Default, Ending, ending_status, end_status, error_status, save_error, ErrorWatch, is_missing, is_none, seen_after, needed_time, first_talk, most_frame, last_line, CommandPlan, of_file, TicketRemoval}
+use Rattle.krb_driver.specs.Commands.{always}
 use Rattle.krb_wire.specs.declared.format.Order.{Order}
 use Rattle.krb_walk.specs.declared.fault.FaultKind.TheVariants.{CutLength}
 use Rattle.krb_files.specs.declared.aftermath.Aftermath.TheVariants.{Damaged, LostChange, Mixed, Restored}
@@ -13,7 +13,6 @@ use Rattle.krb_audit.specs.Findings.{is_out}
 use Rattle.krb_editors.specs.declared.removing.FilesSeen.TheVariants as seen
 use Rattle.krb_driver.specs.declared.command.World.{World}
 use Rattle.krb_driver.specs.Several.{first_round, is_last}
-use Rattle.krb_editors.specs.Ccremove.{TicketRemoval}
 use Rattle.samples.proofs.Unfolded.{on_literals}
 
 -- ---- statuses

@@ -1,6 +1,5 @@
 -- What a run of a command comes to if no call fails: what it prints, how it ends, and its files afterwards.
-use Rattle.samples.proofs.Cited.{filter_map, list_any, ℕ, ◌+◌, max, List, [], ◌∷◌, ◌++◌, codes, length, map, Bool, false, nat_lt, Option, None, Some, option_map, unwrap_or, Result, Ok, Err, if◌then◌else◌, slice_get, nat_eq, filter, ◌&&◌, Well, ccremove_plan, most_bytes, KeytabState, FileMap, loaded, node_of, RunEnd, NothingSelected, OtherType, FileName, LikePrincipal, Word, Ending, ending_status, error_of_name, ending_text, near_words, words_if, is_missing, missing_error, is_none, seen_after, ktremove_plan, goes_on, frame, most_frame, held_in, received, held_file_kind, HoldEnd, about_end, end_of_hold, last_line}
-use Rattle.krb_driver.specs.Commands.{CommandPlan, Effect, Fails, Displays, Saves, files_after, opens}
+use Rattle.samples.proofs.Cited.{filter_map, list_any, ℕ, ◌+◌, max, List, [], ◌∷◌, ◌++◌, codes, length, map, Bool, false, nat_lt, Option, None, Some, option_map, unwrap_or, Result, Ok, Err, if◌then◌else◌, slice_get, nat_eq, filter, ◌&&◌, Well, ccremove_plan, most_bytes, KeytabState, FileMap, loaded, node_of, RunEnd, NothingSelected, OtherType, FileName, LikePrincipal, Word, Ending, ending_status, error_of_name, ending_text, near_words, words_if, is_missing, missing_error, is_none, seen_after, ktremove_plan, goes_on, frame, most_frame, held_in, received, held_file_kind, HoldEnd, about_end, end_of_hold, last_line, CommandPlan, Effect, Fails, Displays, Saves, files_after, opens, result_map, result_map_err, whole_in, found_fault_words, ticket_removal_of, hold_of, removal_of}
 use Rattle.krb_keytab_text.specs.Script.{event_in}
 use Rattle.krb_findings.specs.Table.{none}
 use Rattle.std.specs.Str.{bytes_eq}
@@ -14,13 +13,11 @@ use Rattle.krb_driver.specs.declared.verdict.FileKind.TheVariants.{Keytab, Cache
 use Rattle.krb_driver.specs.FileNames.{bare_name, is_other_type}
 use Rattle.krb_driver.specs.Messages.{message}
 use Rattle.krb_driver.specs.Mistakes.{Matched, MistakeParts, help_of, mistake_line, v1_order}
-use Rattle.krb_driver.specs.Loading.{result_map, result_map_err, whole_in}
 use Rattle.krb_driver.specs.Effects.{about, ending_of, saves_unless}
 use Rattle.krb_readers.specs.Ktcheck.{aged_by, explained_after, plan_of as check_plan}
 use Rattle.krb_readers.specs.KtcheckWords.{keytab_check_of}
 use Rattle.krb_readers.specs.Klist.{check_status, file_kind, klist_plan, listing_of, printed_after, ticket_check_of}
 use Rattle.krb_match.specs.Names.{entry_text}
-use Rattle.krb_driver.specs.EndingWords.{found_fault_words}
 use Rattle.krb_readers.specs.Ktmatch.{first_state, is_none as is_none_matched, match_plan, none_error, sought, state_after}
 use Rattle.krb_readers.specs.declared.ktmatch.state.MatchState.{MatchState}
 use Rattle.krb_readers.specs.KtmatchWords.{ticket_match_of}
@@ -28,15 +25,12 @@ use Rattle.krb_readers.specs.Overview.{heading, overview_of, overview_plan}
 use Rattle.krb_readers.specs.Show.{show_of, show_plan}
 use Rattle.krb_readers.specs.Ktfind.{entry_sought_of, ktfind_plan}
 use Rattle.krb_editors.specs.Ccedit.{ccedit_plan}
-use Rattle.krb_editors.specs.Ccremove.{ticket_removal_of}
-use Rattle.krb_editors.specs.Hold.{hold_of}
 use Rattle.krb_editors.specs.Ktcopy.{copy_of, ktcopy_plan}
 use Rattle.krb_editors.specs.Ktdiff.{comparison_of, ktdiff_plan}
 use Rattle.krb_editors.specs.Ktedit.{ktedit_plan}
 use Rattle.krb_editors.specs.declared.removing.FilesSeen.{FilesSeen}
 use Rattle.krb_editors.specs.declared.removing.FilesSeen.TheVariants as seen
 use Rattle.krb_editors.specs.Sessions.{lines_in}
-use Rattle.krb_editors.specs.Ktremove.{removal_of}
 use Rattle.krb_editors.specs.declared.hold.last_line.Outcome.TheVariants.{Saved, Left}
 use Rattle.krb_ktutil.specs.declared.ktutil.awaiting.Awaiting.TheVariants.{Nothing}
 use Rattle.krb_ktutil.specs.InputLines.{lines_of}

@@ -1,16 +1,15 @@
 //! What words of a command line spell.
 
-ghost use Rattle.std.specs.Prelude.{◌≡◌, ◌++◌, ◌∷◌, [], IfOk, IsOkAnd, OnOk, if◌then◌else◌, map};
+ghost use Rattle.std.specs.Prelude.{◌≡◌, ◌++◌, ◌∷◌, [], IfOk, IsOkAnd, map};
 ghost use Rattle.std.specs.Vec.{vec_items};
 ghost use Rattle.krb_wire.specs.Reading.{principal_parts};
-ghost use Rattle.krb_text.specs.Etype.{is_weak};
 ghost use Rattle.krb_driver.specs.Mistakes.{first_value};
 ghost use Rattle.krb_driver.specs.Spelled.{Spells, SpellsInMemory, count_in, each, printed_name, selected_etypes, spelled_asked, spelled_count, spelled_etype, spelled_etypes, spelled_name, spelled_pattern, spelled_seconds, spelled_version, weak_etypes};
 
 use crate::command_line::matches::{Matches, first_value};
 use crate::command_line::mistake::{Mistake, Phrase};
 use krb_names::{AskedNames, parse_pattern};
-use krb_text::{etype_of, is_weak, parse_seconds, parse_u32};
+use krb_text::{etype_of, parse_seconds, parse_u32};
 use krb_wire::{NameFault, NoMemory, Principal, parse_name, write_name};
 use std::alloc::Global;
 
@@ -137,26 +136,12 @@ pub fn spelled_etype<'a>(word: &'a str) -> Result<u16, Mistake<'a>>
     }
 }
 
-// Adds an encryption type if it is weak.
-fn add_weak(etype: u16, etypes: &mut Vec<u16>) -> Result<(), NoMemory>
-    ensures { OnOk result (etypes.new.items ≡ etypes.old.items ++ (if is_weak etype then etype ∷ [] else [])) }
-{
-    if is_weak(etype) {
-        etypes.push(etype)?;
-    }
-    Ok(())
-}
-
 // Returns the weak encryption types.
 #[tactic(auto, unfolding(krb_text::specs::Etype::etype_table))]
 fn weak_etypes(alloc: Global) -> Result<Vec<u16>, NoMemory>
     ensures { IfOk result (λ etypes. etypes.items ≡ weak_etypes) }
 {
-    let mut etypes = Vec::new(alloc);
-    'numbers: for etype in 0..27 {
-        add_weak(etype, &mut etypes)?;
-    }
-    Ok(etypes)
+    Ok(vec![in alloc; 1, 2, 3, 4, 6, 8, 16, 23, 24]?)
 }
 
 // Parses a word as `weak`, in either case, which selects all weak encryption types, or as one type.

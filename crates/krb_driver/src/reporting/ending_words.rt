@@ -77,6 +77,7 @@ fn failure_line(kind: FileKind, failure: Option<Failure>) -> Line<'static>
     }
 }
 
+#[tactic(auto, using(crate::proofs::Shown::adds_piece))]
 fn add_failures<E: Write>(
     kind: FileKind,
     failures: &[Option<Failure>],
@@ -124,6 +125,7 @@ fn word_line(explained: FindingSet, finding: Finding) -> Line<'static>
     line(&[HEAD, Text(row.word), COLON, Text(row.phrase), END])
 }
 
+#[tactic(auto, using(crate::proofs::Shown::adds_piece))]
 fn add_word_lines<E: Write>(
     findings: &[Finding],
     explained: FindingSet,

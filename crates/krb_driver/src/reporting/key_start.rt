@@ -27,6 +27,7 @@ fn begins(can_begin: bool, word: &[u8]) -> bool
 }
 
 /// Returns where in a word what may be a key begins, at its start or after a `=`, or else the word's length.
+#[tactic(auto, using(crate::proofs::Words::key_here, crate::proofs::Words::key_later, crate::proofs::Words::key_nowhere))]
 pub fn key_start(word: &[u8]) -> usize
     ensures start { result ≡ key_start word.now }
     ensures within { result ≤ length word.now }

@@ -69,6 +69,7 @@ fn add_byte<E: Write>(form: Form, byte: &u8, gathered: &mut Gathered, err: &mut 
     }
 }
 
+#[tactic(auto, using(crate::proofs::Shown::adds_piece))]
 fn add_bytes<E: Write>(form: Form, bytes: &[u8], gathered: &mut Gathered, err: &mut Watched<E>)
     ensures { Adds err.old gathered.old.items err.new gathered.new.items (flat_map (byte_text form) bytes.now) }
 {
@@ -114,6 +115,7 @@ fn add_piece<E: Write>(piece: MessagePiece<'_>, gathered: &mut Gathered, err: &m
 }
 
 /// Adds pieces one after the other.
+#[tactic(auto, using(crate::proofs::Shown::adds_piece))]
 pub fn add_pieces<E: Write>(
     pieces: &[MessagePiece<'_>],
     gathered: &mut Gathered,

@@ -1,5 +1,4 @@
-use Rattle.krb_copy.proofs.Cited.{sym, []}
-use Rattle.krb_copy.proofs.ClassesAfter.{met, one_found}
+use Rattle.krb_copy.proofs.ForAnswers.{met, one_found, sym, []}
 use Rattle.krb_copy.proofs.classes.add.Goals as goal
 
 pub returns : goal.returns

@@ -1,6 +1,4 @@
-use Rattle.krb_copy.proofs.ForAnswers.{List, ℕ, [], sym, subst, ◌++◌, ◌∷◌, map, name_text, PlacedEntry, as_found, AreTexts, entry_texts, key_of_fields}
-use Rattle.krb_copy.proofs.Cited.{AreClasses, Held, map_push}
-use Rattle.krb_copy.proofs.FoundTexts.{one_further}
+use Rattle.krb_copy.proofs.ForAnswers.{List, ℕ, [], sym, subst, ◌++◌, ◌∷◌, map, name_text, PlacedEntry, as_found, AreTexts, entry_texts, key_of_fields, AreClasses, Held, map_push, one_further}
 use Rattle.krb_copy.proofs.classes.classes_of.Goals as goal
 
 pub entries-preserved : goal.entries-preserved

@@ -1,5 +1,4 @@
-use Rattle.krb_copy.proofs.ForAnswers.{◌≡◌, refl, ◌∙◌, ap, sym, subst, false, length, ℕ, ◌<◌, length-replicate, All, all_marked, as_long, get_or_none}
-use Rattle.std.proofs.Common.{replicate, rules}
+use Rattle.krb_copy.proofs.ForAnswers.{◌≡◌, refl, ◌∙◌, ap, sym, subst, false, length, ℕ, ◌<◌, length-replicate, All, all_marked, as_long, get_or_none, replicate, rules}
 use Rattle.krb_copy.proofs.diff.marks_of.Goals as goal
 
 pub returns : goal.returns

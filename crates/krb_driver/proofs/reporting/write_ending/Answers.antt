@@ -1,4 +1,4 @@
-use Rattle.krb_driver.proofs.ForAnswers.{Adds, ending_words, words_if, Adds-none, Adds-then, Writes-two}
+use Rattle.krb_driver.proofs.ForAnswers.{Adds, ending_words, words_if, Adds-none, adds_then, Writes-two}
 use Rattle.krb_driver.proofs.reporting.write_ending.Goals as goal
 use Rattle.krb_driver.proofs.reporting.write_ending.Goals.{then-explains, else-explains}
 
@@ -10,4 +10,4 @@ returns g c =
       | else-explains w ↦ rw (w.err-is, w.gathered-is, w.if-explains.false) (Adds-none _ _)
     ] in
     Writes-two _ _ _ _ _ _ _ _ (rw (c.new-gathered.ensures, c.ending_message.ensures) at c.add_line.ensures)
-    (Adds-then _ _ _ _ _ _ _ _ words c.add_aftermath.ensures) c.send.ensures
+    (adds_then _ _ _ _ _ _ _ _ words c.add_aftermath.ensures) c.send.ensures

@@ -1,15 +1,7 @@
-use Rattle.krb_editors.proofs.Cited.{◌∙◌, ℕ, Ok, Option, ap, err_from_is_err_and}
-use Rattle.std.specs.Prelude.{codes, option_map}
-use Rattle.std.specs.Result.{result_err}
+use Rattle.krb_editors.proofs.ForAnswers.{codes, option_map, result_err, SelectionParts, Matched, first_value, v1_order, ◌>>=◌, CopyParts, copied_kvnos, odd_options, selection_of, spelled_new_name, one_spelled, two_spelled, ◌∙◌, ℕ, Ok, Option, ap, err_from_is_err_and}
 use Rattle.krb_wire.specs.Reading.{principal_parts}
 use Rattle.krb_wire.specs.Spelling.{Parts}
-use Rattle.krb_audit.specs.Selection.{SelectionParts}
-use Rattle.krb_driver.specs.Mistakes.{Matched, first_value, v1_order}
-use Rattle.krb_driver.specs.Spelled.{◌>>=◌}
 use Rattle.krb_driver.proofs.Spelled.{no_mistake}
-use Rattle.krb_editors.proofs.SpelledParts.{one_spelled, two_spelled}
-use Rattle.krb_editors.specs.Ktcopy.{CopyParts, copied_kvnos, odd_options}
-use Rattle.krb_editors.specs.Selecting.{selection_of, spelled_new_name}
 use Rattle.krb_editors.proofs.ktcopy.copy_options.Goals as goal
 
 -- what is asked for, with this version of the copies, this selection and this name

@@ -1,5 +1,4 @@
-use Rattle.std.proofs.lemmas.Result.{err_from_is_err_and}
-use Rattle.krb_json.proofs.Sending.{gathers_two_fails, gathers_then_memory, gathers_three}
+use Rattle.krb_json.proofs.ForAnswers.{err_from_is_err_and, gathers_two_fails, gathers_then_memory, gathers_three}
 use Rattle.krb_json.proofs.cache.send_arrays.Goals as goal
 
 pub returns-in_err-send_shown-clause-gathers : goal.returns-in_err-send_shown-clause-gathers

@@ -1,5 +1,4 @@
-use Rattle.krb_json.proofs.Cited.{sym, ◌∙◌}
-use Rattle.krb_json.proofs.ForAnswers.{entry_finding_flat}
+use Rattle.krb_json.proofs.ForAnswers.{entry_finding_flat, sym, ◌∙◌}
 use Rattle.krb_json.proofs.check.send_finding.Goals as goal
 
 pub returns : goal.returns

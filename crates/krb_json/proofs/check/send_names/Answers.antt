@@ -1,5 +1,4 @@
-use Rattle.krb_json.specs.Check.{name_finding}
-use Rattle.krb_json.proofs.ForAnswers.{err_from_is_err_and, adds_next, adds_stop}
+use Rattle.krb_json.proofs.ForAnswers.{err_from_is_err_and, adds_next, adds_stop, name_finding}
 use Rattle.krb_json.proofs.check.send_names.Goals as goal
 
 pub returns-in_err-send_name_finding : goal.returns-in_err-send_name_finding

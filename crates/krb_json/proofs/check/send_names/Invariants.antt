@@ -1,5 +1,4 @@
-use Rattle.krb_json.proofs.Cited.{take, Ok, flat_map, Adds}
-use Rattle.krb_json.specs.Check.{name_finding}
+use Rattle.krb_json.proofs.Cited.{take, Ok, flat_map, Adds, name_finding}
 use Rattle.krb_json.proofs.check.send_names.Given as goal
 
 abbrev pub invariant-entries : goal.invariant-entries

@@ -1,5 +1,4 @@
-use Rattle.krb_json.proofs.Cited.{◌≡◌, ◌++◌, false, drop}
-use Rattle.krb_wire.specs.Controls.{escaped}
+use Rattle.krb_json.proofs.Cited.{◌≡◌, ◌++◌, false, drop, escaped}
 use Rattle.krb_wire.specs.declared.controls.Style.TheVariants.{Json}
 use Rattle.krb_json.proofs.escape.append_slowly.Given as goal
 

@@ -1,6 +1,5 @@
 use Rattle.std.proofs.lemmas.List.Concat.{flat_map_single}
-use Rattle.krb_json.proofs.ForAnswers.{◌∷◌, ◌≤◌, [], arith, length, err_from_is_err_and, adds_next, adds_stop, take_all}
-use Rattle.krb_json.specs.Matches.{match_value}
+use Rattle.krb_json.proofs.ForAnswers.{◌∷◌, ◌≤◌, [], arith, length, err_from_is_err_and, adds_next, adds_stop, take_all, match_value}
 use Rattle.krb_json.proofs.matches.send_tickets.Goals as goal
 
 pub returns-in_err-send_ticket : goal.returns-in_err-send_ticket

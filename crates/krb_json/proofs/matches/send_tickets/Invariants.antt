@@ -1,5 +1,4 @@
-use Rattle.krb_json.proofs.Cited.{take, Ok, flat_map, ◌∷◌, [], Adds}
-use Rattle.krb_json.specs.Matches.{match_value}
+use Rattle.krb_json.proofs.Cited.{take, Ok, flat_map, ◌∷◌, [], Adds, match_value}
 use Rattle.krb_json.proofs.matches.send_tickets.Given as goal
 
 abbrev pub invariant-tickets : goal.invariant-tickets

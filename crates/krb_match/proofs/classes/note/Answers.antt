@@ -1,7 +1,4 @@
-use Rattle.std.proofs.lemmas.Result.{on_ok_weaker}
-use Rattle.krb_match.proofs.Cited.{◌∙◌, ap, PlacedEntry}
-use Rattle.krb_names.specs.Hash.{hash_of}
-use Rattle.krb_match.proofs.Noting.{placed_next}
+use Rattle.krb_match.proofs.ForAnswers.{◌∙◌, ap, PlacedEntry, hash_of, on_ok_weaker, placed_next}
 use Rattle.krb_match.proofs.classes.note.Goals as goal
 
 pub returns : goal.returns

@@ -1,6 +1,4 @@
-use Rattle.krb_match.proofs.Cited.{◌≡◌, ◌∙◌, sym, ap, subst, List, [], ◌∷◌, ◌++◌, map, append_assoc, append-nil, vec_items, PlacedEntry, placed_entries, ArePlaced, entry_key}
-use Rattle.krb_match.proofs.Noting.{none_placed}
-use Rattle.krb_match.proofs.Numbering.{keys_next}
+use Rattle.krb_match.proofs.ForAnswers.{◌≡◌, ◌∙◌, sym, ap, subst, List, [], ◌∷◌, ◌++◌, map, append_assoc, append-nil, vec_items, PlacedEntry, placed_entries, ArePlaced, entry_key, none_placed, keys_next}
 use Rattle.krb_match.proofs.classes.places_of.Goals as goal
 
 pub entries-init : goal.entries-init

@@ -1,5 +1,4 @@
-use Rattle.krb_match.proofs.Cited.{◌≡◌, ◌∙◌, sym, ap, ℕ, ◌==◌, length, List, Option, unwrap_or, get, Group, group_cmp, group_in, is_first_in}
-use Rattle.krb_match.proofs.Noting.{firsts_before, group_added}
+use Rattle.krb_match.proofs.ForAnswers.{◌≡◌, ◌∙◌, sym, ap, ℕ, ◌==◌, length, List, Option, unwrap_or, get, Group, group_cmp, group_in, is_first_in, firsts_before, group_added}
 use Rattle.krb_match.proofs.group.add.Goals as goal
 
 -- the map after the call is the one that `entry` borrowed

@@ -1,5 +1,4 @@
-use Rattle.krb_match.proofs.Cited.{◌∙◌}
-use Rattle.krb_match.proofs.Noting.{noted}
+use Rattle.krb_match.proofs.ForAnswers.{◌∙◌, noted}
 use Rattle.krb_match.proofs.group.note.Goals as goal
 
 pub returns : goal.returns

@@ -1,5 +1,4 @@
-use Rattle.krb_match.proofs.Cited.{◌≡◌, ◌++◌, drop, true}
-use Rattle.krb_match.specs.Said.{etype_list}
+use Rattle.krb_match.proofs.Cited.{◌≡◌, ◌++◌, drop, true, etype_list}
 use Rattle.krb_match.proofs.line.append_list.Given as goal
 
 -- the enctypes so far, and those to come, are all

@@ -1,8 +1,4 @@
-use Rattle.krb_match.proofs.Cited.{List, subst, is_some}
-use Rattle.krb_ccache.specs.Store.{PlacedCredential, placed_credentials}
-use Rattle.krb_match.proofs.Adding.{all_added}
-use Rattle.krb_match.specs.Looking.{AreMatched}
-use Rattle.krb_match.specs.Tickets.{looked_at}
+use Rattle.krb_match.proofs.ForAnswers.{List, subst, is_some, PlacedCredential, placed_credentials, AreMatched, looked_at, all_added}
 use Rattle.krb_match.proofs.looking.match_tickets.Goals as goal
 
 pub credentials-preserved : goal.credentials-preserved

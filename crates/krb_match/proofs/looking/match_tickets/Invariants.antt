@@ -1,7 +1,4 @@
-use Rattle.krb_match.proofs.Cited.{List, is_some, PlacedEntry, placed_entries, ◌≡◌}
-use Rattle.krb_ccache.specs.Store.{placed_credentials}
-use Rattle.krb_match.specs.Looking.{AreMatched, IsJudge, IsNear}
-use Rattle.krb_match.specs.Tickets.{looked_at}
+use Rattle.krb_match.proofs.Cited.{List, is_some, PlacedEntry, placed_entries, ◌≡◌, placed_credentials, AreMatched, IsJudge, IsNear, looked_at}
 use Rattle.krb_match.proofs.looking.match_tickets.Given as goal
 
 -- the credentials so far were considered

@@ -1,12 +1,6 @@
-use Rattle.krb_readers.proofs.Cited.{◌≡◌, ◌∙◌, ℕ, List, Ok, ap, subst, err_from_is_err_and}
-use Rattle.std.specs.Prelude.{codes, None}
-use Rattle.std.specs.Result.{result_err}
+use Rattle.krb_readers.proofs.Cited.{◌≡◌, ◌∙◌, ℕ, List, Ok, ap, subst, err_from_is_err_and, codes, None, result_err, Matched, v1_order, ◌>>=◌, spelled_etype, spelled_name, spelled_version, no_mistake, EntrySought, entry_sought_of}
 use Rattle.krb_wire.specs.Reading.{principal_parts}
 use Rattle.krb_wire.specs.Spelling.{Parts}
-use Rattle.krb_driver.specs.Mistakes.{Matched, v1_order}
-use Rattle.krb_driver.specs.Spelled.{◌>>=◌, spelled_etype, spelled_name, spelled_version}
-use Rattle.krb_driver.proofs.Spelled.{no_mistake}
-use Rattle.krb_readers.specs.Ktfind.{EntrySought, entry_sought_of}
 use Rattle.krb_readers.proofs.Options.{put_err, two_words}
 use Rattle.krb_readers.proofs.ktfind.find_options.Goals as goal
 

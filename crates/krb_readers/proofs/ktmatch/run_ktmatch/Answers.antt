@@ -1,5 +1,4 @@
-use Rattle.krb_readers.proofs.Cited.{inl, inr, Ok, Err}
-use Rattle.std.specs.Prelude.{refl}
+use Rattle.krb_readers.proofs.Cited.{inl, inr, Ok, Err, refl}
 use Rattle.krb_readers.proofs.ktmatch.run_ktmatch.Goals as goal
 
 -- the keytab was not opened

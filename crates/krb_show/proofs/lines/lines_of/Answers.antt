@@ -1,7 +1,6 @@
-use Rattle.krb_show.proofs.Cited.{List, ap, sym, subst, length, ◌∙◌, PlacedEntry, placed_entries, is_some_has, KtFormat, entries_in, entry_at, AreSoFar}
+use Rattle.krb_show.proofs.Cited.{List, ap, sym, subst, length, ◌∙◌, PlacedEntry, placed_entries, is_some_has, KtFormat, entries_in, entry_at, AreSoFar, RankParts, rank_of}
 use Rattle.krb_keytab.specs.CellViews.{CellsFrom, BeginsWith, cell_of}
 use Rattle.krb_keytab.specs.declared.cells.KtCell.{KtCell}
-use Rattle.krb_audit.specs.Ranks.{RankParts, rank_of}
 use Rattle.krb_audit.proofs.RankLemmas.{mapped_len}
 use Rattle.krb_keytab.proofs.EntryLists.{entries_of_cells, listed_live}
 use Rattle.krb_show.proofs.lines.lines_of.Goals as goal

@@ -1,5 +1,4 @@
-use Rattle.krb_show.proofs.Cited.{◌∙◌, ap, sym, LineParts, line_cmp}
-use Rattle.std.specs.Prelude.{refl}
+use Rattle.krb_show.proofs.Cited.{◌∙◌, ap, sym, LineParts, line_cmp, refl}
 use Rattle.std.specs.BTreeMap.{insert_entry}
 use Rattle.krb_show.proofs.EntryLines.{line_is}
 use Rattle.krb_show.proofs.lines.put_entry.Goals as goal

@@ -1,8 +1,6 @@
 -- `none_at` puts a null pointer and a handle of the heap into a struct, and owns nothing behind the pointer.
-use mathlib.Core.Path.{◌≡◌, refl, sym, subst}
 use mathlib.Core.Bool.{Bool, true, false, ◌&&◌}
-use mathlib.Core.List.{List, [], ◌∷◌, ◌++◌}
-use Rattle.krb_c.proofs.Cited.{None, T, lit<, Ura, ty_ptr, Val, vstruct, vcons, vnil, has_ty, WT, SProp, ent, id⊢, ftrue, Memory, Routine, WpFn, Tables, Logic, Fun, fact, tables, tables_of, WpFn-mono, agg, no_more, and_then, returns, enter, alloc_all, pass_all, free_all, look_at, get, sets, yes, Valss, owns, Ptr, RawPtr, block_ptr, null_ptr, ptr_val, type_at, plain, nothing, heard, layout, triple_of, entered, says, Stays, stay_dropped, walk_of, ends_at, Goes-dropped, walk_Meets, handle_tells, within, shape, to}
+use Rattle.krb_c.proofs.Cited.{None, T, lit<, Ura, ty_ptr, Val, vstruct, vcons, vnil, has_ty, WT, SProp, ent, id⊢, ftrue, Memory, Routine, WpFn, Tables, Logic, Fun, fact, tables, tables_of, WpFn-mono, agg, no_more, and_then, returns, enter, alloc_all, pass_all, free_all, look_at, get, sets, yes, Valss, owns, Ptr, RawPtr, block_ptr, null_ptr, ptr_val, type_at, plain, nothing, heard, layout, triple_of, entered, says, Stays, stay_dropped, walk_of, ends_at, Goes-dropped, walk_Meets, handle_tells, within, shape, to, List, [], ◌∷◌, ◌++◌, ◌≡◌, refl, sym, subst}
 use types.Kit.{‵, raw, ◌⊛◌, ◌$◌, ◌∵◌, !, qed, move, drop, use1, join, split, fsplit, fjoin, fpack, feq_i, feq_l, suffices, done}
 use Rattle.std_heap.specs.contracts.Global as Heap
 use Rattle.krb_c.proofs.AsBox.{E}

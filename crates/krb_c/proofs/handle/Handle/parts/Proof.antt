@@ -1,7 +1,5 @@
 -- `parts` tests the pointer: it is null if the handle is empty, else that of a block of the heap, which may be compared with null.
-use mathlib.Core.Path.{◌≡◌, refl, sym, subst}
-use mathlib.Core.List.{List, [], ◌∷◌, ◌++◌}
-use Rattle.krb_c.proofs.Cited.{T, lit<, Option, Some, None, Ura, Val, vnull, vstruct, vcons, vnil, of_list, has_ty, WT, SProp, ent, emp, id⊢, guard_i, ftrue, fsep, Memory, Routine, WpFn, Tables, Logic, sem, Fun, fact_use, tables, tables_of, WpFn-mono, whole, sub, agg, stop, fld, lit, bin, no_more, and_then, of_opd, first, branches, exec, returns, enter, alloc_all, pass_all, free_all, look_at, get, get_in, sets, sets_last, env, yes, RattleType, layout, type_at, Ptr, block_ptr, ptr_val, Testable, tests_null, nothing, triple_of, entered, says, Stays, stay_dropped, walk_of, ends_at, Goes-dropped, walk_Meets, token, handle_tells, D, B, τ, word, box_typed, box_out, box_in, Global}
+use Rattle.krb_c.proofs.Cited.{T, lit<, Option, Some, None, Ura, Val, vnull, vstruct, vcons, vnil, of_list, has_ty, WT, SProp, ent, emp, id⊢, guard_i, ftrue, fsep, Memory, Routine, WpFn, Tables, Logic, sem, Fun, fact_use, tables, tables_of, WpFn-mono, whole, sub, agg, stop, fld, lit, bin, no_more, and_then, of_opd, first, branches, exec, returns, enter, alloc_all, pass_all, free_all, look_at, get, get_in, sets, sets_last, env, yes, RattleType, layout, type_at, Ptr, block_ptr, ptr_val, Testable, tests_null, nothing, triple_of, entered, says, Stays, stay_dropped, walk_of, ends_at, Goes-dropped, walk_Meets, token, handle_tells, D, B, τ, word, box_typed, box_out, box_in, Global, List, [], ◌∷◌, ◌++◌, ◌≡◌, refl, sym, subst}
 use mir.Raw.{raw as bare}
 use types.Kit.{Item, ‵, raw, given, learn, at_ret, ◌⊛◌, ◌$◌, ◌∵◌, !, qed, by, move, drop, use0, use1, join, split, fsplit, fjoin, fpick, feq_l, suffices, done}
 use types.Match.{live}

@@ -1,9 +1,5 @@
 -- `into_box` hands what the parts own to `from_raw`.
-use mathlib.Core.Path.{◌≡◌, refl, sym, subst, ap}
-use mathlib.Core.List.{List, [], ◌∷◌, ◌++◌}
-use Rattle.krb_c.proofs.Cited.{T, Ura, Fn, Body, place, copy, assign, rv_opd, seq, return, Val, vptr, has_ty, WT, SProp, ent, id⊢, ftrue, fsep, flft, Memory, Routine, WpFn, Tables, Logic, Fun, fact, tables, tables_of, fm_of, WpFn-mono, whole, sub, stop, fld, no_more, and_then, of_opd, returns, enter, first, blocks, exec, alloc_all, pass_all, free_all, look_at, get, get_in, sets, lands_last, env, RattleType, no, block_ptr, plain, heard, nothing, only, triple_of, entered, says, Stays, stay_dropped, walk_of, ends_at, walk_Meets, token, Goes-blank, Bx, D, R, P, B, args, box_ty, word, box_typed, box_out, box_in, calls_at_last, Ended, Clauses, Triple, Contract, box_owns}
-use mir.MapTy.{inst_fn}
-use contract.BorrowLft.{◌⊑◌}
+use Rattle.krb_c.proofs.Cited.{T, Ura, Fn, Body, place, copy, assign, rv_opd, seq, return, Val, vptr, has_ty, WT, SProp, ent, id⊢, ftrue, fsep, flft, Memory, Routine, WpFn, Tables, Logic, Fun, fact, tables, tables_of, fm_of, WpFn-mono, whole, sub, stop, fld, no_more, and_then, of_opd, returns, enter, first, blocks, exec, alloc_all, pass_all, free_all, look_at, get, get_in, sets, lands_last, env, RattleType, no, block_ptr, plain, heard, nothing, only, triple_of, entered, says, Stays, stay_dropped, walk_of, ends_at, walk_Meets, token, Goes-blank, Bx, D, R, P, B, args, box_ty, word, box_typed, box_out, box_in, calls_at_last, Ended, Clauses, Triple, Contract, box_owns, ◌⊑◌, List, [], ◌∷◌, ◌++◌, ◌≡◌, refl, sym, subst, ap, inst_fn}
 use types.Kit.{Item, at_ret, ‵, raw, ◌⊛◌, some, later, ◌$◌, ◌∵◌, !, qed, by, move, drop, use1, join, split, split3, pick, rewrite, fsplit, fjoin, feq_i, suffices, await, done}
 use Rattle.krb_c.specs.contracts.parts.Parts as parts
 use Rattle.std_alloc.specs.contracts.boxed.Box.from_raw as Fr

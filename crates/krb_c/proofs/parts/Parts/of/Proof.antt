@@ -1,10 +1,6 @@
 -- `of` takes the box apart, and the parts own what it owned.
-use mathlib.Core.Path.{◌≡◌, refl, sym, subst, ap, ◌∙◌}
-use mathlib.Core.List.{List, [], ◌∷◌, ◌++◌}
-use Rattle.krb_c.proofs.Cited.{Ura, Fn, Args, Dict, a_type, dcons, dnil, Val, vstruct, of_list, SProp, ent, id⊢, never, fst∗, ftrue, fsep, flft, Memory, Routine, WpFn, Tables, Logic, sem, Fun, fact, tables, tables_of, fm_of, WpFn-mono, whole, sub, agg, stop, fld, no_more, and_then, of_opd, returns, enter, alloc_all, pass_all, free_all, look_at, get, get_in, sets, lands_as, RattleType, no, bounded, Ptr, RawPtr, block_ptr, null_ptr, ptr_val, in_a_block, plain, heard, nothing, only, triple_of, entered, says, Stays, stay_dropped, walk_of, ends_at, walk_Meets, token, handle_tells, Goes-blank, Bx, D, τ, R, P, B, word, box_typed, box_out, box_in, calls_at, Ended, Clauses, Triple, Contract, box_owns}
-use mir.MapTy.{inst_fn}
+use Rattle.krb_c.proofs.Cited.{Ura, Fn, Args, Dict, a_type, dcons, dnil, Val, vstruct, of_list, SProp, ent, id⊢, never, fst∗, ftrue, fsep, flft, Memory, Routine, WpFn, Tables, Logic, sem, Fun, fact, tables, tables_of, fm_of, WpFn-mono, whole, sub, agg, stop, fld, no_more, and_then, of_opd, returns, enter, alloc_all, pass_all, free_all, look_at, get, get_in, sets, lands_as, RattleType, no, bounded, Ptr, RawPtr, block_ptr, null_ptr, ptr_val, in_a_block, plain, heard, nothing, only, triple_of, entered, says, Stays, stay_dropped, walk_of, ends_at, walk_Meets, token, handle_tells, Goes-blank, Bx, D, τ, R, P, B, word, box_typed, box_out, box_in, calls_at, Ended, Clauses, Triple, Contract, box_owns, ◌⊑◌, List, [], ◌∷◌, ◌++◌, ◌≡◌, refl, sym, subst, ap, ◌∙◌, inst_fn}
 use mir.Raw.{raw as bare}
-use contract.BorrowLft.{◌⊑◌}
 use types.Kit.{Item, ‵, raw, ◌⊛◌, some, later, ◌$◌, ◌∵◌, !, qed, by, move, drop, use1, join, split, split3, pick, rewrite, fsplit, fjoin, fpick, feq_l, suffices, await, done}
 use denote.Struct.Tuple.{Tuple}
 use Rattle.krb_c.specs.contracts.parts.Parts as parts

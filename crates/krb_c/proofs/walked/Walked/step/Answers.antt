@@ -3,11 +3,7 @@ use Rattle.krb_c.proofs.StoreLemmas.{known_after}
 use Rattle.krb_c.proofs.walked.Walked.step.Goals as goal
 
 pub shown_at-requires : goal.shown_at-requires
-shown_at-requires g c =
-    (known_after (g.S.Placed.rules.seen (g.S.Placed.state_of c.self.inside.store)) c.args.cursor.now c.in-Live.place c.in-Live.next
-    c.first-sound.ensures.sound (sym c.in-Live.is ∙ c.stop_at.ensures)).is_live
+shown_at-requires g c = (known_after _ _ _ _ c.first-sound.ensures.sound (sym c.in-Live.is ∙ c.stop_at.ensures)).is_live
 
 pub invariant_of-self : goal.invariant_of-self
-invariant_of-self g c =
-    known_after (g.S.Placed.rules.seen (g.S.Placed.state_of c.self.inside.store)) c.args.cursor.now c.in-Live.place c.in-Live.next
-    c.first-sound.ensures.sound (sym c.in-Live.is ∙ c.stop_at.ensures)
+invariant_of-self g c = known_after _ _ _ _ c.first-sound.ensures.sound (sym c.in-Live.is ∙ c.stop_at.ensures)

@@ -1,5 +1,4 @@
-use Rattle.krb_copy.proofs.ForAnswers.{◌≡◌, ◌∙◌, None, ap, subst, length, take, arith, take_all, take_more, List, length-replicate, AreKeys, Row, none_added, row_below}
-use Rattle.std.proofs.Common.{replicate}
+use Rattle.krb_copy.proofs.ForAnswers.{◌≡◌, ◌∙◌, None, ap, subst, length, take, arith, take_all, take_more, List, length-replicate, AreKeys, Row, none_added, row_below, replicate}
 use Rattle.std.proofs.Math.Seq.{take-nil}
 use Rattle.krb_copy.proofs.diff.Keys.of.Goals as goal
 

@@ -1,8 +1,4 @@
-use Rattle.krb_copy.proofs.ForAnswers.{◌∙◌, ◌∷◌, [], append_assoc, arith, name_text, name_texts, PlacedEntry, length_push, key_of_fields, row_is}
-use Rattle.krb_copy.proofs.Cited.{are_twins, entry_of, IsClassKey}
-use Rattle.krb_copy.proofs.Alike.{twins_equiv}
-use Rattle.krb_copy.proofs.ClassKeys.{classes_agree}
-use Rattle.krb_names.proofs.Numbered.{numbers_next}
+use Rattle.krb_copy.proofs.ForAnswers.{◌∙◌, ◌∷◌, [], append_assoc, arith, name_text, name_texts, PlacedEntry, length_push, key_of_fields, row_is, are_twins, entry_of, IsClassKey, numbers_next, twins_equiv, classes_agree}
 use Rattle.krb_copy.proofs.numbering.Numbering.row.Goals as goal
 
 pub returns : goal.returns

@@ -1,10 +1,4 @@
-use Rattle.krb_driver.proofs.Cited.{◌≡◌, ℕ, List, Some, subst, ◌∙◌}
-use Rattle.std.specs.Result.{result_err}
-use Rattle.std.specs.Vec.{vec_items}
-use Rattle.krb_driver.specs.Mistakes.{mistake_parts}
-use Rattle.krb_driver.specs.Spelled.{selected_etypes, spelled_etypes}
-use Rattle.krb_driver.proofs.Spelled.{lists_more, mapped_err, mistake_here, mistakes_left, no_mistake, value_if_ok}
-use Rattle.std.proofs.lemmas.Result.{err_from_is_err_and}
+use Rattle.krb_driver.proofs.ForAnswers.{result_err, vec_items, mistake_parts, selected_etypes, spelled_etypes, err_from_is_err_and, lists_more, mapped_err, mistake_here, mistakes_left, no_mistake, value_if_ok, ◌≡◌, ℕ, List, Some, subst, ◌∙◌}
 use Rattle.krb_driver.proofs.command_line.spelled.spelled_etypes.Goals as goal
 
 pub words-preserved : goal.words-preserved

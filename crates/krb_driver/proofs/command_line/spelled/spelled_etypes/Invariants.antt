@@ -1,6 +1,4 @@
-use Rattle.krb_driver.proofs.Cited.{◌≡◌, drop, map, take, IfOk, Ok}
-use Rattle.std.specs.Result.{result_err}
-use Rattle.krb_driver.specs.Spelled.{each, selected_etypes, spelled_etypes}
+use Rattle.krb_driver.proofs.Cited.{◌≡◌, drop, map, take, IfOk, Ok, result_err, each, selected_etypes, spelled_etypes}
 use Rattle.krb_driver.proofs.command_line.spelled.spelled_etypes.Given as goal
 
 -- the words that are left have the mistakes of all, and the types so far are those that the words before select

@@ -1,7 +1,4 @@
-use Rattle.krb_driver.proofs.Cited.{◌∙◌, ap, None}
-use Rattle.std.specs.Prelude.{option_map}
-use Rattle.krb_text.proofs.NameFaults.{not_for_memory}
-use Rattle.krb_driver.proofs.Spelled.{mistake_of, no_fault}
+use Rattle.krb_driver.proofs.ForAnswers.{option_map, not_for_memory, mistake_of, no_fault, ◌∙◌, ap, None}
 use Rattle.krb_driver.proofs.command_line.spelled.spelled_name.Goals as goal
 
 -- a word that is a principal name has no mistake

@@ -1,11 +1,4 @@
-use Rattle.krb_driver.proofs.Cited.{◌≡◌, ℕ, List, Some, ap, subst, ◌∙◌, map}
-use Rattle.std.specs.Result.{result_err}
-use Rattle.std.proofs.lemmas.List.{map_push}
-use Rattle.std.specs.Vec.{vec_items}
-use Rattle.krb_driver.specs.Mistakes.{mistake_parts}
-use Rattle.krb_driver.specs.Spelled.{each, printed_name}
-use Rattle.krb_driver.proofs.Spelled.{mistake_here, mistakes_left, no_mistake, value_if_ok, values_more}
-use Rattle.std.proofs.lemmas.Result.{err_from_is_err_and}
+use Rattle.krb_driver.proofs.ForAnswers.{result_err, map_push, vec_items, mistake_parts, each, printed_name, err_from_is_err_and, mistake_here, mistakes_left, no_mistake, value_if_ok, values_more, ◌≡◌, ℕ, List, Some, ap, subst, ◌∙◌, map}
 use Rattle.krb_driver.proofs.command_line.spelled.spelled_names.Goals as goal
 
 pub words-preserved : goal.words-preserved

@@ -1,7 +1,4 @@
-use Rattle.krb_driver.proofs.Cited.{◌≡◌, drop, map, take, IfOk, Ok}
-use Rattle.std.specs.Result.{result_err}
-use Rattle.std.specs.Vec.{vec_items}
-use Rattle.krb_driver.specs.Spelled.{each, printed_name}
+use Rattle.krb_driver.proofs.Cited.{◌≡◌, drop, map, take, IfOk, Ok, result_err, vec_items, each, printed_name}
 use Rattle.krb_driver.proofs.command_line.spelled.spelled_names.Given as goal
 
 -- the words that are left have the mistakes of all, and the values so far are those that the words before spell

@@ -1,8 +1,5 @@
-use Rattle.krb_driver.proofs.Cited.{◌∙◌, ap, None}
-use Rattle.std.specs.Prelude.{option_map}
+use Rattle.krb_driver.proofs.ForAnswers.{option_map, not_for_memory, mistake_of, no_fault, ◌∙◌, ap, None}
 use Rattle.krb_names.specs.Patterns.{starred}
-use Rattle.krb_text.proofs.NameFaults.{not_for_memory}
-use Rattle.krb_driver.proofs.Spelled.{mistake_of, no_fault}
 use Rattle.krb_driver.proofs.command_line.spelled.spelled_pattern.Goals as goal
 
 -- a word that is a pattern has no mistake

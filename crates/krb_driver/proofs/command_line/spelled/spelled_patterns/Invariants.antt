@@ -1,7 +1,4 @@
-use Rattle.krb_driver.proofs.Cited.{◌≡◌, drop, map, take, IfOk, Ok}
-use Rattle.std.specs.Result.{result_err}
-use Rattle.krb_wire.specs.Reading.{principal_parts}
-use Rattle.krb_driver.specs.Spelled.{each, spelled_pattern}
+use Rattle.krb_driver.proofs.Cited.{◌≡◌, drop, map, take, IfOk, Ok, result_err, principal_parts, each, spelled_pattern}
 use Rattle.krb_driver.proofs.command_line.spelled.spelled_patterns.Given as goal
 
 -- the words that are left have the mistakes of all, and the values so far are those that the words before spell

@@ -1,4 +1,4 @@
-use Rattle.krb_driver.proofs.ForAnswers.{Adds-then, Writes-two}
+use Rattle.krb_driver.proofs.ForAnswers.{adds_then, Writes-two}
 use Rattle.krb_driver.specs.Mistakes.{mistake_words}
 use Rattle.krb_driver.proofs.reporting.mistake_words.report_mistake.Goals as goal
 
@@ -7,4 +7,4 @@ pub returns : goal.returns
 unfolding mistake_words
 returns g c =
     Writes-two _ _ _ _ _ _ _ _ (rw (c.new-gathered.ensures, c.mistake_pieces.ensures) at c.add_line.ensures)
-    (Adds-then _ _ _ _ _ _ _ _ (rw c.help_pieces.ensures at c.add_line-2.ensures) (rw c.more_pieces.ensures at c.add_line-3.ensures)) c.send.ensures
+    (adds_then _ _ _ _ _ _ _ _ (rw c.help_pieces.ensures at c.add_line-2.ensures) (rw c.more_pieces.ensures at c.add_line-3.ensures)) c.send.ensures

@@ -1,12 +1,6 @@
-use Rattle.krb_editors.proofs.Cited.{◌≡◌, ◌∙◌, arith, ℕ, List, ◌++◌, length, ap, refl, sym, subst, Ok, Err}
-use Rattle.std.proofs.Common.{length-append}
-use Rattle.std.proofs.lemmas.Bool.{true≢false, false≢true}
-use Rattle.std.specs.Prelude.{codes, decimal, IsTrue, IsFalse}
+use Rattle.krb_editors.proofs.Cited.{◌≡◌, ◌∙◌, arith, ℕ, List, ◌++◌, length, ap, refl, sym, subst, Ok, Err, length-append, true≢false, false≢true, codes, decimal, IsTrue, IsFalse, OutputNotWritten, Well, Shows, Writes}
 use Rattle.krb_files.specs.Bytes.{Watch}
-use Rattle.krb_driver.specs.declared.error.RunError.TheVariants.{OutputNotWritten}
-use Rattle.krb_driver.specs.declared.verdict.Verdict.TheVariants.{Well}
 use Rattle.krb_driver.specs.RunErrors.{Ending}
-use Rattle.krb_driver.specs.Runs.{Shows, Writes}
 use Rattle.krb_editors.specs.Hold.{frame}
 use Rattle.krb_editors.proofs.hold.frame.print_frame.Goals as goal
 

@@ -1,12 +1,5 @@
-use Rattle.krb_editors.proofs.Cited.{◌∙◌, Ok, ap}
-use Rattle.std.specs.Prelude.{Result, codes}
-use Rattle.std.specs.Result.{result_err}
-use Rattle.krb_audit.specs.Selection.{SelectionParts}
-use Rattle.krb_driver.specs.Mistakes.{Matched, MistakeParts, v1_order}
-use Rattle.krb_driver.specs.Spelled.{◌>>=◌}
-use Rattle.krb_editors.proofs.SpelledParts.{one_spelled}
+use Rattle.krb_editors.proofs.ForAnswers.{Result, codes, result_err, SelectionParts, Matched, MistakeParts, v1_order, ◌>>=◌, selection_of, one_spelled, ◌∙◌, Ok, ap}
 use Rattle.krb_editors.specs.Ktremove.{Removal, odd_options, of_same, removed_kvno}
-use Rattle.krb_editors.specs.Selecting.{selection_of}
 use Rattle.krb_editors.proofs.ktremove.words.remove_options.Goals as goal
 
 -- what is asked for, with this selection

@@ -1,5 +1,4 @@
-use Rattle.krb_json.proofs.Cited.{append_assoc, append-nil}
-use Rattle.krb_json.specs.Matches.{judgement_members}
+use Rattle.krb_json.proofs.Cited.{append_assoc, append-nil, judgement_members}
 use Rattle.krb_json.proofs.piece.Piece.judgement.Goals as goal
 
 pub returns : goal.returns

@@ -1,5 +1,4 @@
-use Rattle.krb_json.proofs.Cited.{append_assoc, ◌≡◌, w64}
-use Rattle.std.proofs.Common.{arith, w32, to_z, of_z}
+use Rattle.krb_json.proofs.Cited.{append_assoc, ◌≡◌, w64, arith, w32, to_z, of_z}
 use Rattle.std.proofs.lemmas.Int.{to_z-of_z}
 use Rattle.krb_json.proofs.piece.Piece.offset.Goals as goal
 

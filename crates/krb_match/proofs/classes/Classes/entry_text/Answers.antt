@@ -1,9 +1,5 @@
 use Rattle.std.proofs.lemmas.Option.{slice_get-map, slice_get_past, slice_get_read}
-use Rattle.std.specs.Prelude.{slice_get}
-use Rattle.krb_wire.specs.Names.{name_text}
-use Rattle.krb_keytab.specs.Store.{KeytabState}
-use Rattle.krb_match.specs.Names.{entry_text}
-use Rattle.krb_match.proofs.Cited.{◌≡◌, arith, ◌∙◌, ap, refl, ℕ, List, [], length, drop, map, Option, Some, None, option_map, option_map_or, vec_items, entry_key, PlacedEntry, placed_entries}
+use Rattle.krb_match.proofs.Cited.{◌≡◌, arith, ◌∙◌, ap, refl, ℕ, List, [], length, drop, map, Option, Some, None, option_map, option_map_or, vec_items, entry_key, PlacedEntry, placed_entries, KeytabState, entry_text, name_text, slice_get}
 use Rattle.krb_match.proofs.classes.Classes.entry_text.Goals as goal
 
 text_is : {V : Type 0} (f : V → List ℕ) (names : List V) (xs : List PlacedEntry) (n : ℕ) (name : Option V) → map f names ≡ map entry_key xs → slice_get names n ≡ name → option_map_or (drop 1) (option_map f name) [] ≡ option_map_or (λ x. name_text x.1.principal) (slice_get xs n) []

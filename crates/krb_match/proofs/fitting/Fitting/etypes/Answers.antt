@@ -1,6 +1,4 @@
-use Rattle.krb_match.proofs.Cited.{◌∙◌, sym, ap, arith, ℕ, ◌+◌, ◌-◌, List, length, length_push}
-use Rattle.krb_match.specs.Match.{etypes_from}
-use Rattle.krb_match.proofs.Found.{no_more_etypes, no_turns, one_more_etype}
+use Rattle.krb_match.proofs.ForAnswers.{◌∙◌, sym, ap, arith, ℕ, ◌+◌, ◌-◌, List, length, length_push, etypes_from, no_more_etypes, no_turns, one_more_etype}
 use Rattle.krb_match.proofs.fitting.Fitting.etypes.Goals as goal
 
 pub returns-in_default : goal.returns-in_default

@@ -1,5 +1,4 @@
-use Rattle.krb_match.proofs.Cited.{◌≡◌, ◌-◌, List, length, PlacedEntry, AreUnited, etypes_of}
-use Rattle.krb_match.specs.Match.{etypes_from}
+use Rattle.krb_match.proofs.Cited.{◌≡◌, ◌-◌, List, length, PlacedEntry, AreUnited, etypes_of, etypes_from}
 use Rattle.krb_match.proofs.fitting.Fitting.etypes.Given as goal
 
 -- one is found each turn; those found, and those of the turns to come, are all

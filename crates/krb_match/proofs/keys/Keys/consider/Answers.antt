@@ -1,6 +1,4 @@
-use Rattle.std.proofs.lemmas.Result.{on_ok_weaker}
-use Rattle.krb_match.proofs.Cited.{◌∙◌, PlacedEntry}
-use Rattle.krb_match.proofs.Noting.{noted_next}
+use Rattle.krb_match.proofs.ForAnswers.{◌∙◌, PlacedEntry, on_ok_weaker, noted_next}
 use Rattle.krb_match.proofs.keys.Keys.consider.Goals as goal
 
 pub returns-in-Some-clause-noted : goal.returns-in-Some-clause-noted

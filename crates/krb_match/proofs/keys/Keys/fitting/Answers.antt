@@ -1,5 +1,4 @@
-use Rattle.krb_match.proofs.Cited.{arith, Fitting}
-use Rattle.krb_match.proofs.Judging.{united}
+use Rattle.krb_match.proofs.ForAnswers.{arith, Fitting, united}
 use Rattle.krb_match.proofs.keys.Keys.fitting.Goals as goal
 
 pub returns : goal.returns

@@ -1,5 +1,4 @@
-use Rattle.krb_match.proofs.Cited.{sym, arith, ◌∙◌, have_same_name}
-use Rattle.krb_match.proofs.Numbering.{none_named}
+use Rattle.krb_match.proofs.ForAnswers.{sym, arith, ◌∙◌, have_same_name, none_named}
 use Rattle.krb_match.proofs.keys.Keys.judge.Goals as goal
 
 pub returns-in-Some : goal.returns-in-Some

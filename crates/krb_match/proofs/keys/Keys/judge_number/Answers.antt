@@ -1,5 +1,4 @@
-use Rattle.krb_match.proofs.Cited.{arith, None, fitting_of, newest_version, named}
-use Rattle.krb_match.proofs.Judging.{newest_is, no_etypes, not_opened, some_etypes}
+use Rattle.krb_match.proofs.ForAnswers.{arith, None, fitting_of, newest_version, named, newest_is, no_etypes, not_opened, some_etypes}
 use Rattle.krb_match.proofs.keys.Keys.judge_number.Goals as goal
 
 pub returns-then-is_empty : goal.returns-then-is_empty

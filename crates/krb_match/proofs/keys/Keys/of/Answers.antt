@@ -1,7 +1,4 @@
-use Rattle.krb_match.proofs.Cited.{◌≡◌, ◌∙◌, sym, ap, subst, List, [], ◌∷◌, ◌++◌, append_assoc, append-nil, PlacedEntry, placed_entries, AreNoted, has_name}
-use Rattle.krb_match.proofs.Noting.{none_noted}
-use Rattle.krb_match.proofs.Numbering.{among_is, named_here}
-use Rattle.krb_match.proofs.Places.{places_rise}
+use Rattle.krb_match.proofs.ForAnswers.{◌≡◌, ◌∙◌, sym, ap, subst, List, [], ◌∷◌, ◌++◌, append_assoc, append-nil, PlacedEntry, placed_entries, AreNoted, has_name, none_noted, among_is, named_here, places_rise}
 use Rattle.krb_match.proofs.keys.Keys.of.Goals as goal
 
 pub entries-init : goal.entries-init

@@ -1,6 +1,4 @@
-use Rattle.std.specs.Prelude.{slice_get}
-use Rattle.krb_match.proofs.Cited.{◌∙◌, refl, sym, ap, ℕ, true, List, None, Option, Some, option_map, find, first_of, fitting_of, named, opener}
-use Rattle.krb_match.proofs.Judging.{opener_is}
+use Rattle.krb_match.proofs.ForAnswers.{◌∙◌, refl, sym, ap, ℕ, true, List, None, Option, Some, option_map, find, first_of, fitting_of, named, opener, slice_get, opener_is}
 use Rattle.krb_match.proofs.keys.Keys.opener.Goals as goal
 
 pub returns-in-Some : goal.returns-in-Some

@@ -1,5 +1,4 @@
-use Rattle.krb_match.proofs.Cited.{◌∙◌, sym, ap, ℕ, Option, filter, ◌==◌, named, wanted}
-use Rattle.krb_match.proofs.Judging.{wanted_is}
+use Rattle.krb_match.proofs.ForAnswers.{◌∙◌, sym, ap, ℕ, Option, filter, ◌==◌, named, wanted, wanted_is}
 use Rattle.krb_match.proofs.keys.Keys.wanted.Goals as goal
 
 pub returns-in-None : goal.returns-in-None

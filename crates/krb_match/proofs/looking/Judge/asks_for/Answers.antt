@@ -1,17 +1,12 @@
-use Rattle.std.proofs.lemmas.Result.{IfOk-weaker}
-use Rattle.std.specs.Prelude.{not}
 use Rattle.krb_ccache.specs.Credential.{CredParts}
 use Rattle.krb_audit.specs.Tickets.{is_service}
 use Rattle.krb_names.specs.Asked.{AskedParts, asks_for_any}
-use Rattle.krb_match.proofs.Cited.{◌≡◌, ◌∙◌, sym, ap, refl, false, List, Parts, PlacedEntry, has_name}
-use Rattle.krb_match.proofs.Noting.{not_false}
-use Rattle.krb_match.specs.Match.{name_of}
-use Rattle.krb_match.specs.Tickets.{is_asked}
+use Rattle.krb_match.proofs.Cited.{◌≡◌, ◌∙◌, sym, ap, refl, false, List, Parts, PlacedEntry, has_name, name_of, is_asked, IfOk-weaker, not, not-false}
 use Rattle.krb_match.proofs.looking.Judge.asks_for.Goals as goal
 
 -- if any name is asked for and it is no service, the entries decide
 no_service : (asked : AskedParts) (xs : List PlacedEntry) (c : CredParts) → not (asks_for_any asked) ≡ false → is_service (name_of c) ≡ false → is_asked asked xs c ≡ has_name (name_of c) xs
-no_service asked xs c any other = rw (not_false (asks_for_any asked) any, other) refl
+no_service asked xs c any other = rw (not-false (asks_for_any asked) any, other) refl
 
 pub returns-clause-asked : goal.returns-clause-asked
 returns-clause-asked g c = λ asked wanted xs old name key.

@@ -1,6 +1,4 @@
-use Rattle.std.proofs.lemmas.Bool.Decides.{nat_tests}
-use Rattle.std.specs.Prelude.{IfOk}
-use Rattle.krb_match.proofs.Cited.{◌≡◌, arith, subst, judged, judged_among, named, ticket_of}
+use Rattle.krb_match.proofs.Cited.{◌≡◌, arith, subst, judged, judged_among, named, ticket_of, nat_tests, IfOk}
 use Rattle.krb_match.specs.declared.judgement.Judgement.{Judgement}
 use Rattle.krb_match.proofs.looking.Judge.judge.Goals as goal
 

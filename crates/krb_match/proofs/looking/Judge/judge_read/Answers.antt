@@ -1,5 +1,4 @@
-use Rattle.krb_match.proofs.Cited.{◌≡◌, sym, refl, subst, List, PlacedEntry, judged_among, named}
-use Rattle.krb_match.specs.declared.judgement.Judgement.TheVariants.{Opens}
+use Rattle.krb_match.proofs.Cited.{◌≡◌, sym, refl, subst, List, PlacedEntry, judged_among, named, Opens}
 use Rattle.krb_match.proofs.looking.Judge.judge_read.Goals as goal
 
 pub returns-in-Some-clause-said : goal.returns-in-Some-clause-said

@@ -1,5 +1,4 @@
-use Rattle.krb_match.proofs.Cited.{◌∙◌, ap, arith, name_key}
-use Rattle.krb_match.specs.Match.{name_of}
+use Rattle.krb_match.proofs.Cited.{◌∙◌, ap, arith, name_key, name_of}
 use Rattle.krb_match.proofs.looking.Judge.looked_at.Goals as goal
 
 pub returns-then-not-branch-clause-said : goal.returns-then-not-branch-clause-said

@@ -1,8 +1,4 @@
-use Rattle.krb_match.proofs.Cited.{◌≡◌, ◌∙◌, ap, ap₂, subst, Bool, true, cond, [], ◌∷◌, ◌++◌, None, Parts, option_or}
-use Rattle.krb_ccache.specs.Store.{PlacedCredential}
-use Rattle.krb_match.specs.Looking.{AreMatched, IsSaid}
-use Rattle.krb_match.specs.Tickets.{MatchedParts, is_looked_at, looked_at, matched, near_by}
-use Rattle.krb_match.proofs.Adding.{added}
+use Rattle.krb_match.proofs.ForAnswers.{◌≡◌, ◌∙◌, ap, ap₂, subst, Bool, true, cond, [], ◌∷◌, ◌++◌, None, Parts, option_or, PlacedCredential, AreMatched, IsSaid, MatchedParts, is_looked_at, looked_at, matched, near_by, added}
 use Rattle.krb_match.proofs.looking.Matched.add_as.Goals as goal
 
 pub returns-in_ok-push-in-Some-clause-matched : goal.returns-in_ok-push-in-Some-clause-matched

@@ -1,6 +1,4 @@
-use Rattle.krb_keytab.specs.Store.{KeytabState}
-use Rattle.krb_match.proofs.Cited.{◌∙◌, ap, refl, Bool, placed_entries}
-use Rattle.krb_match.specs.Tickets.{matched_tickets, near_ticket}
+use Rattle.krb_match.proofs.Cited.{◌∙◌, ap, refl, Bool, placed_entries, KeytabState, matched_tickets, near_ticket}
 use Rattle.krb_match.proofs.matcher.Matcher.judge.Goals as goal
 
 pub returns-clause-tickets : goal.returns-clause-tickets

@@ -1,5 +1,4 @@
-use Rattle.krb_match.proofs.Cited.{◌∙◌, ap, arith, bytes_eq, position_from, vec_items}
-use Rattle.krb_match.proofs.Positions.{found_mapped, none_found}
+use Rattle.krb_match.proofs.ForAnswers.{◌∙◌, ap, arith, bytes_eq, position_from, vec_items, found_mapped, none_found}
 use Rattle.krb_match.proofs.near.FoundKeys.index.Goals as goal
 
 pub returns-then-not-contains : goal.returns-then-not-contains

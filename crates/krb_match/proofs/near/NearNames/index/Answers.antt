@@ -1,6 +1,4 @@
-use Rattle.krb_match.proofs.Cited.{◌∙◌, ap₂, bare_key, bytes_eq, folded_key}
-use Rattle.krb_match.specs.Near.{lesser}
-use Rattle.krb_match.proofs.Positions.{first_either}
+use Rattle.krb_match.proofs.ForAnswers.{◌∙◌, ap₂, bare_key, bytes_eq, folded_key, lesser, first_either}
 use Rattle.krb_match.proofs.near.NearNames.index.Goals as goal
 
 pub returns : goal.returns

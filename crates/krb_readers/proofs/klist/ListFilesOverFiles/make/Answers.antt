@@ -1,9 +1,5 @@
-use Rattle.krb_readers.proofs.Cited.{◌∙◌, ap, inr, Err, err_from_is_err_and, makes-end, Ends}
-use Rattle.krb_walk.specs.Store.{fault_of}
-use Rattle.krb_keytab.specs.Store.{store_of}
+use Rattle.krb_readers.proofs.Cited.{◌∙◌, ap, inr, Err, err_from_is_err_and, makes-end, Ends, fault_of, store_of, Displays, keytab_shown, page}
 unfoldable use Rattle.krb_driver.specs.Commands.{always}
-use Rattle.krb_driver.specs.Commands.{Displays}
-use Rattle.krb_readers.specs.Klist.{keytab_shown, page}
 use Rattle.krb_readers.proofs.klist.ListFilesOverFiles.make.Goals as goal
 
 pub returns-in_err-keytab-in-Keytab : goal.returns-in_err-keytab-in-Keytab

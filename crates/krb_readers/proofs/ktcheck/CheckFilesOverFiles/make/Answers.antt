@@ -1,5 +1,4 @@
-use Rattle.krb_readers.proofs.Cited.{inr, ap, KeytabCheck, Ok, Err, found, page_of}
-use Rattle.krb_driver.specs.Loading.{keytab_in}
+use Rattle.krb_readers.proofs.Cited.{inr, ap, KeytabCheck, Ok, Err, found, page_of, keytab_in}
 use Rattle.krb_readers.proofs.Checked.{tried}
 use Rattle.krb_readers.proofs.ktcheck.CheckFilesOverFiles.make.Goals as goal
 

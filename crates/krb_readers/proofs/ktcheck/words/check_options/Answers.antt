@@ -1,12 +1,5 @@
-use Rattle.krb_readers.proofs.Cited.{◌≡◌, ◌∙◌, ℕ, List, KeytabCheck, Ok, Result, ap, err_from_is_err_and, map}
-use Rattle.std.specs.Prelude.{codes, None, Option}
-use Rattle.std.specs.Result.{result_err}
+use Rattle.krb_readers.proofs.Cited.{None, odd_only, ◌≡◌, ◌∙◌, ℕ, List, KeytabCheck, Ok, Result, ap, err_from_is_err_and, map, codes, Option, result_err, FindingSet, Matched, MistakeParts, first_value, twice, v1_order, ◌>>=◌, each, printed_name, spelled_seconds, no_mistake, keytab_check_of, spelled_findings}
 use Rattle.std.specs.Vec.{vec_items}
-use Rattle.krb_findings.specs.declared.finding_set.FindingSet.{FindingSet}
-use Rattle.krb_driver.specs.Mistakes.{Matched, MistakeParts, first_value, twice, v1_order}
-use Rattle.krb_driver.specs.Spelled.{◌>>=◌, each, printed_name, spelled_seconds}
-use Rattle.krb_driver.proofs.Spelled.{no_mistake}
-use Rattle.krb_readers.specs.KtcheckWords.{keytab_check_of, odd_only, spelled_findings}
 use Rattle.krb_readers.proofs.Options.{put_err, two_words}
 use Rattle.krb_readers.proofs.ktcheck.words.check_options.Goals as goal
 

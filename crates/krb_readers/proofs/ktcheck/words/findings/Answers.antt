@@ -1,5 +1,4 @@
-use Rattle.krb_readers.proofs.Cited.{spelled_finding}
-use Rattle.krb_findings.specs.Table.{joined}
+use Rattle.krb_readers.proofs.Cited.{spelled_finding, joined}
 use Rattle.krb_readers.proofs.Options.{folds_left}
 use Rattle.krb_readers.proofs.ktcheck.words.findings.Goals as goal
 

@@ -1,7 +1,4 @@
-use Rattle.krb_readers.proofs.Cited.{◌≡◌, drop, map, fold, spelled_finding, spelled_findings}
-use Rattle.krb_findings.specs.Table.{joined}
-use Rattle.krb_driver.specs.Loading.{result_map}
-use Rattle.krb_driver.specs.Spelled.{each}
+use Rattle.krb_readers.proofs.Cited.{◌≡◌, drop, map, fold, spelled_finding, spelled_findings, joined, result_map, each}
 use Rattle.krb_readers.proofs.ktcheck.words.findings.Given as goal
 
 -- what the words that are left add to the findings so far is what all spell

@@ -1,5 +1,4 @@
-use Rattle.krb_readers.proofs.Cited.{◌∙◌, ap, inr, Err, err_from_is_err_and, makes-end, Ends}
-use Rattle.krb_readers.specs.Ktfind.{EntrySought, finds}
+use Rattle.krb_readers.proofs.Cited.{◌∙◌, ap, inr, Err, err_from_is_err_and, makes-end, Ends, EntrySought, finds}
 use Rattle.krb_readers.proofs.ktfind.FindEntryCommand.make.Goals as goal
 
 pub returns-in_err-keytab : goal.returns-in_err-keytab

@@ -1,5 +1,4 @@
-use Rattle.krb_readers.proofs.Cited.{ap}
-use Rattle.krb_readers.specs.KtmatchWords.{TicketMatch}
+use Rattle.krb_readers.proofs.Cited.{ap, TicketMatch}
 use Rattle.krb_readers.proofs.ktmatch.command.matched.Goals as goal
 
 pub returns-clause-near : goal.returns-clause-near

@@ -1,5 +1,4 @@
-use Rattle.krb_readers.proofs.Cited.{◌≡◌, drop, fold, words_of, words_with}
-use Rattle.krb_match.specs.Tickets.{MatchedParts}
+use Rattle.krb_readers.proofs.Cited.{◌≡◌, drop, fold, words_of, words_with, MatchedParts}
 use Rattle.krb_readers.proofs.ktmatch.verdict.words_of.Given as goal
 
 -- the words so far with those of the other tickets are those of all

@@ -1,8 +1,5 @@
-use Rattle.krb_show.proofs.Cited.{[], ◌≡◌, ◌∷◌, ◌∙◌, ap, subst, sym, List, unwrap_or, PlacedEntry, on_ok_weaker, some_is, EntryParts, LineKey, LineParts, line_key, lines_from, placed_entries, put_entry, AreSoFar}
-use Rattle.std.specs.Prelude.{◌++◌}
-use Rattle.krb_audit.specs.Ranks.{mapped_after, rank_of}
+use Rattle.krb_show.proofs.Cited.{[], ◌≡◌, ◌∷◌, ◌∙◌, ap, subst, sym, List, unwrap_or, PlacedEntry, on_ok_weaker, some_is, EntryParts, LineKey, LineParts, line_key, lines_from, placed_entries, put_entry, AreSoFar, ◌++◌, mapped_after, rank_of, Parts}
 use Rattle.krb_show.proofs.EntryLines.{named}
-use Rattle.krb_wire.specs.Spelling.{Parts}
 use Rattle.krb_show.proofs.lines.SoFar.add.Goals as goal
 
 -- the next entry is in the line with its key

@@ -1,5 +1,4 @@
-use Rattle.krb_readers.proofs.Cited.{◌∙◌, ℕ, ap, sym}
-use Rattle.std.specs.Prelude.{nat_lt}
+use Rattle.krb_readers.proofs.Cited.{◌∙◌, ℕ, ap, sym, nat_lt}
 use Rattle.krb_readers.proofs.Latest.{of_last}
 use Rattle.krb_readers.proofs.klist.ticket_check.SeenTickets.are_enough.Goals as goal
 

@@ -1,5 +1,4 @@
-use Rattle.krb_readers.proofs.Cited.{ℕ, List, ap, sym, subst, ◌∙◌, Ok, Err, err_from_is_err_and, CheckParts, check_json_text, verdict_status, Prints, found, found_verdict, is_silent}
-use Rattle.krb_audit.specs.CheckUp.{checked}
+use Rattle.krb_readers.proofs.Cited.{ℕ, List, ap, sym, subst, ◌∙◌, Ok, Err, err_from_is_err_and, CheckParts, check_json_text, verdict_status, Prints, found, found_verdict, is_silent, checked}
 use Rattle.krb_audit.specs.Findings.{CheckAsked}
 use Rattle.krb_readers.proofs.Checked.{object-failed, object-shown, object-silent, object-unshown}
 use Rattle.krb_readers.proofs.ktcheck.page.CheckObjectShow.show.Goals as goal

@@ -1,7 +1,4 @@
-use Rattle.krb_readers.proofs.Cited.{inr, ap, Ok, Err}
-use Rattle.krb_driver.specs.Loading.{matched_in}
-use Rattle.krb_readers.specs.Ktmatch.{page_due}
-use Rattle.krb_readers.specs.KtmatchWords.{TicketMatch}
+use Rattle.krb_readers.proofs.Cited.{inr, ap, Ok, Err, matched_in, page_due, TicketMatch}
 use Rattle.krb_readers.proofs.Checked.{tried}
 use Rattle.krb_readers.proofs.ktmatch.command.MatchFilesOverFiles.make.Goals as goal
 
