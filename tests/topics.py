@@ -8,7 +8,7 @@ from importlib import import_module
 from pathlib import Path
 from types import ModuleType
 
-from computed.topic import Topic
+from computed.batches import Topic
 
 FOLDER = Path(__file__).resolve().parent
 PROGRAM = str(FOLDER.parent / "crates" / "krbfile" / "out" / "krbfile")

@@ -1,29 +1,53 @@
-"""`klist -l`: two lines of heading, and a line for each cache, or JSON."""
+"""`klist` over several files: an empty line between listings, JSON a line each, what is reported of others, and what
+ends the run. And `klist -l`: two lines of heading, and a line for each cache, or JSON."""
 
-from caches.cache_listings import HEADING, line_of, of_host
-from caches.valid_tickets import FUTURE, HOST, OVER, TGT, TICKETS
-from makers.images import PA_TYPE, TWO, Credential, Name, cache
+from functools import partial
+
+from caches import cache_listings
+from caches.cache_listings import FUTURE, HEADING, OVER, TGT, TICKETS, TICKET_LINE, VALID_HOST, line_of, of_host
+from keytabs.file_names import LIMIT
+from keytabs.listings import B_LINE, HOST_LINE, listed
+from makers.images import B, HOST, OFFSET, PA_TYPE, TWO, USUAL, Credential, Name, cache, keytab
+from names.several_files import MISSING, OTHER, UNREAD, fault
 from runs.harness import Line, words_of
-from words.explaining import FAILED, FULL, Explained, over_files
-from words.phrases import BAD_HEADER, BEGINS_AS_KEYTAB, CAUSES, COLLECTION
+from words.explaining import FAILED, FULL, Explained, no_keytab, over_files
+from words.phrases import BAD_HEADER, BEGINS_AS_KEYTAB, CAUSES, COLLECTION, LARGE, LISTED_AS_KEYTAB
 
-# Caches, and files that are none.
-FILES = {"t": cache(TGT), "o": cache(OVER), "e": cache(), "a\nb": cache(TGT), "k": TWO,
-         "x": cache(TGT, fields=b"\0\x01\0")}
-NONE = {name: ((f"{name}: {what}", why), status) for name, what, why, status in (
-    ("no", "no such file", "", 1), ("DIR:t", "no such file", COLLECTION, 1), (".", "cannot read", CAUSES["EISDIR"], 3),
-    ("/dev/null", "cannot read", CAUSES["no plain file"], 3), ("t/x", "cannot read", CAUSES["ENOTDIR"], 3),
-    ("k", f"not a cache ({BEGINS_AS_KEYTAB[0]})", BEGINS_AS_KEYTAB[1], 1),
-    ("x", f"not a cache ({BAD_HEADER[0]})", BAD_HEADER[1], 1))}
+# Keytabs and caches that are listed.
+FILES = {"k": TWO, "j": keytab(B), "d": keytab(HOST, b"\0"), "n": keytab(), "c": USUAL, "e": cache(),
+         "o": cache(fields=OFFSET), "a\nb": keytab(B), "FILE:k": keytab(HOST)}
+
+K, D = listed(HOST_LINE, B_LINE), listed(HOST_LINE, b"fault 1 at 53", name=b"d")
+j = partial(listed, B_LINE)
+C, E = cache_listings.listed(b"u@R", TICKET_LINE), cache_listings.listed(b"u@R", name=b"e")
+N_JSON = b'{"file":"n","kind":"keytab","version":2,"entries":[],"fault":null}\n'
+E_JSON, O_JSON = (b'{"file":"%b","kind":"ccache","version":4,"default_principal":"u@R","offset":%b,"tickets":[],'
+                  b'"config":[],"fault":null}\n' % each
+                  for each in ((b"e", b"null"), (b"o", b'{"seconds":5,"microseconds":-10}')))
 
 
-def overview(line: str | Line, *lines: bytes, files: dict[str, bytes] = FILES, front: bytes = HEADING,
+def list_all(line: str | Line, out: list[bytes], *output: tuple[str, str], **more) -> Explained:
+    """Returns a listing of some of the files, with an empty line between them, and its messages."""
+    return over_files("klist", line, b"\n".join(out), *output, **{"files": FILES, **more})
+
+
+# Caches of an overview, and files that are none.
+CACHES = {"t": cache(TGT), "o": cache(OVER), "e": cache(), "a\nb": cache(TGT), "k": TWO,
+          "x": cache(TGT, fields=b"\0\x01\0")}
+NONE = {
+    "no": (MISSING, 1), "DIR:t": (("DIR:t: no such file", COLLECTION), 1), ".": (UNREAD, 3),
+    "/dev/null": (("/dev/null: cannot read", CAUSES["no plain file"]), 3),
+    "t/x": (("t/x: cannot read", CAUSES["ENOTDIR"]), 3), "k": (no_keytab(BEGINS_AS_KEYTAB, "k", "cache"), 1),
+    "x": (no_keytab(BAD_HEADER, "x", "cache"), 1)}
+
+
+def overview(line: str | Line, *lines: bytes, files: dict[str, bytes] = CACHES, front: bytes = HEADING,
              **more) -> Explained:
     """Returns a run over some files, its lines, and the messages about those that are no caches."""
     missing = [NONE[word] for word in words_of(line) if word in NONE]
     more = {"status": max([status for _, status in missing], default=0), **more}
     output = more.pop("output", [each for each, _ in missing])
-    return over_files("klist", line, files, front + b"".join(lines), *output, **more)
+    return over_files("klist", line, front + b"".join(lines), *output, files=files, **more)
 
 
 # Default principals, and how they print.
@@ -35,9 +59,10 @@ SUMMARIES: list[tuple[tuple[Credential | bytes, ...], str]] = [
     ((), '0,"endtime":null,"expired":true'), ((OVER,), '1,"endtime":1700036000,"expired":true'),
     ((OVER, TGT, OVER), f'3,"endtime":{FUTURE},"expired":false'),
     # Where there is a ticket-granting ticket of the own realm, only such ones count for the end.
-    ((HOST, OVER), '2,"endtime":1700036000,"expired":true'), ((of_host(endtime=0),), '1,"endtime":0,"expired":true'),
+    ((VALID_HOST, OVER), '2,"endtime":1700036000,"expired":true'),
+    ((of_host(endtime=0),), '1,"endtime":0,"expired":true'),
     ((TGT.removed(), PA_TYPE), '0,"endtime":null,"expired":true'),
-    ((TGT, b"\0", HOST), f'1,"endtime":{FUTURE},"expired":false'),
+    ((TGT, b"\0", VALID_HOST), f'1,"endtime":{FUTURE},"expired":false'),
 ]
 
 
@@ -74,4 +99,23 @@ CASES = [
     # The heading comes first, so no file is looked at where it cannot be printed.
     *(overview(line, front=b"", options=FULL, status=3, output=output) for line, output in (
         ("-l no", (FAILED,)), ("-l --json no t .", (NONE["no"][0], FAILED)))),
+    # Listings come in order, each as often as it is given, with the name as it is loaded.
+    list_all(("FILE:k", "./j", "-k", "--", "a\nb", "k", "FILE:FILE:k"),
+             [K, j(name=b"./j"), j(name=b"a\nb"), K, listed(HOST_LINE, name=b"FILE:k")]),
+    list_all("c DIR::e FILE:c", [C, E, C]), list_all("-kt n n", [listed(name=b"n", letters="t")] * 2),
+    # A file that cannot be listed has its message and no empty line; the status is the greatest.
+    list_all("-k . no d k d", [D, K, D], UNREAD, MISSING, *fault("d"), *fault("d"), status=3),
+    list_all(("-k", "", "k", "FILE:", "no\nk"), [K], (": no such file", ""), (": no such file", ""),
+             (r"no\x0ak: no such file", ""), status=1),
+    list_all("-k c /dev/null KCM:k", [], no_keytab(LISTED_AS_KEYTAB, "c"),
+             ("/dev/null: cannot read", CAUSES["no plain file"]), OTHER, status=3),
+    list_all("k c DIR:c", [C], no_keytab(BEGINS_AS_KEYTAB, "k", "cache"), ("DIR:c: no such file", COLLECTION),
+             status=1),
+    partial(list_all, "-k l k", [K], ("l: file too large", LARGE), status=1, files={"k": TWO, "l": bytes(LIMIT + 1)}),
+    # JSON has a line for each.
+    list_all("-k --json n no n", [N_JSON + N_JSON], MISSING, status=1),
+    list_all("--json e o e", [E_JSON + O_JSON + E_JSON]),
+    # An output that takes nothing ends the run with the first file that would print something.
+    list_all("-k no k x", [], MISSING, FAILED, status=3, options=FULL),
+    list_all("--json no e no", [], MISSING, FAILED, status=3, options=FULL),
 ]

@@ -13,7 +13,7 @@ from keytabs.listings import sample
 from makers.images import TWO
 from pages.documents import read
 from runs.harness import TOP, Outcome, Report, every, files_in, folder_of, message, run
-from runs.namespaces import UNSHARE, no_mounts
+from runs.system_calls import UNSHARE, no_mounts
 
 BUILT = ("bin/krbfile-static", "lib/libkrbfile.a", "lib/libkrbfile.so.1")  # what is built and packed
 LINKED = (BUILT[0], BUILT[2])  # what is linked here

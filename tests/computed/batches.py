@@ -1,22 +1,69 @@
-"""Batches of runs, which the prover compares with what the definitions compute."""
+"""Batches of runs, which the prover compares with what the definitions compute; and topics of random runs, each made
+from a number, which are compared so, or in rounds of checks of other kinds. Those that went wrong are kept."""
 
+import os
 import re
+import shutil
 import subprocess
 import tempfile
 from collections import Counter
-from collections.abc import Iterable
+from collections.abc import Callable, Iterable, Iterator
 from concurrent.futures import ThreadPoolExecutor
+from dataclasses import dataclass
 from pathlib import Path
+from random import Random
+from shlex import quote
 
-from computed.terms import NotComputed, Words, row_of, spellings
+from computed.terms import TIME, Module, NotComputed, Words, row_of, seconds, spellings, time_theorems
 from proving import compiler
-from runs.harness import Case, Report
-from runs.random_runs import keep
-from theorems.antt import TIME, Module, seconds, time_theorems
+from runs import undisturbed
+from runs.harness import Case, Outcome, Report
+from runs.undisturbed import Undisturbed, explained
+
+ONE_IN = 10  # an unproved program is slow: it runs one of this many numbers
+KEPT = os.path.join(tempfile.gettempdir(), "krbfile-kept")  # the folder of the cases that went wrong
+
+
+def keep(name: str, case: Case, program: str = "krbfile") -> str:
+    """Keeps a case that went wrong in a folder of its own, and returns the line that runs it again, over a copy."""
+    folder = os.path.join(KEPT, name.replace(" ", "-"))
+    shutil.rmtree(folder, ignore_errors=True)
+    os.makedirs(os.path.join(folder, "files"))
+    front = f'here=$(mktemp -d) && cp -r {folder}/files/. "$here" && cd "$here" && '
+    line = " ".join(quote(os.fsdecode(word)) for word in (program, *case.words))
+    files = {os.path.join("files", each): data for each, data in case.files.items()}
+    again = os.fsencode(f"{front}{line} < {folder}/stdin\n")
+    for path, data in {**files, "stdin": case.stdin, "again": again}.items():
+        Path(folder, path).write_bytes(data)
+    return f"sh {folder}/again"
+
+
+@dataclass(frozen=True)
+class Rounds:
+    """Checks in rounds, each made from a number, which take long and report by themselves."""
+
+    check_rounds: Callable[[Report, str, range], None]
+    # A long run takes its count divided by this.
+    share: int
+    # How many numbers a short run takes.
+    usual: int = 0
+    name: str = ""
+
+    def check(self, report: Report, program: str) -> None:
+        """Runs a few, the same in each run."""
+        self.check_rounds(report, program, range(self.usual))
+
+    def check_long(self, program: str, seed: int, count: int) -> Report:
+        """Runs many, from a seed on."""
+        report = Report()
+        self.check_rounds(report, program, range(seed, seed + max(1, count // self.share)))
+        return report
+
 
 NAME = "computed"  # the crate of a batch
 ROWS = 100  # how many rows a module has
 MOST = 4_000  # the most bytes that a row is about
+SHARE = 50  # a long run takes its count divided by this
 DAYS = 16  # how many days there are: the date of a day is found by counting, which takes as long as many rows
 
 # A function whose proof reads the modules.
@@ -126,3 +173,36 @@ def compare(report: Report, seen: list[Case], are_sources: bool, jobs: int, is_w
             report.passed += len(part) - len(found)
             for number, why in found.items():
                 report.check(f"computed: {rows[number][0].name}", [keep(f"computed {number}", rows[number][0]), why])
+
+
+@dataclass(frozen=True)
+class Topic:
+    """Random runs of one topic: its title, the runs that a random source makes in turn, and how many numbers a short
+    run takes."""
+
+    title: str
+    runs: Callable[[Random], Iterator[Undisturbed]]
+    usual: int
+
+    @property
+    def name(self) -> str:
+        """Its name on a command line."""
+        return self.title.replace(" ", "_")
+
+    def make(self, numbers: range) -> list[Outcome]:
+        """Makes the runs of some numbers, with their messages explained if the number is odd; returns how they end."""
+        return [(explained(run) if number % 2 else run).wanted
+                for number in numbers for run in self.runs(Random(number))]
+
+    def check(self, report: Report, _program: str) -> None:
+        """Makes as many as usual, the same in each run; fewer of an unproved program, which is slow."""
+        self.make(range(self.usual if report.is_proved else self.usual // ONE_IN))
+
+    def check_long(self, program: str, seed: int, count: int) -> Report:
+        """Makes many from a seed on, and compares them with the definitions."""
+        report = Report()
+        self.make(range(seed, seed + max(1, count // SHARE)))
+        compare(report, undisturbed.SEEN, not compiler.is_proved("samples"),
+                compiler.at_once(len(os.sched_getaffinity(0))))
+        undisturbed.SEEN.clear()
+        return report

@@ -6,15 +6,13 @@ from functools import partial
 from random import Random
 
 from caches.cache_edits import FAULTS as CACHE_FAULTS
+from computed.batches import Topic
 from computed.random_listings import CACHE_NAMES, NOW, SERVERS, SEVERAL, options, random_ticket
-from computed.topic import Topic
+from keytabs.edits import FAULTS, KTUTIL_FAULTS, NO_KEYS
 from keytabs.listings import ETYPES, KEY_SIZES
-from keytabs.edits import FAULTS
-from keytabs.ktutil_lines import FAULTS as KTUTIL_FAULTS
-from keytabs.ktutil_lines import NO_KEYS
 from makers.images import BIG, LITTLE, TWO, hole, keytab, name_text
-from makers.random_caches import KEYS, PRINCIPALS, filled_cache, random_credential, random_value, with_damage
-from makers.random_keytabs import Choices, damaged, random_bytes, random_keytab
+from makers.random_files import (KEYS, PRINCIPALS, Choices, damaged, filled_cache, random_bytes, random_credential,
+                                 random_keytab, random_value, with_damage)
 from runs.undisturbed import Undisturbed, undisturbed
 
 # Few names, versions, types and keys, so that many entries agree; MIT's programs do not see those with empty parts.

@@ -5,13 +5,11 @@ from collections.abc import Iterator
 from dataclasses import replace
 from random import Random
 
-from computed.topic import Topic
+from computed.batches import Topic
 from keytabs.listings import KNOWN_TIMES
 from makers.images import CONFIG_FIRST, CONFIG_REALM, TWO, Credential, Name, cache, name_text, ticket_of
-from makers.random_caches import SAMPLES as CACHES
-from makers.random_caches import random_cache, random_credential, random_header, with_damage
-from makers.random_keytabs import SAMPLES as KEYTABS
-from makers.random_keytabs import Choices, damaged, mutated, random_image
+from makers.random_files import (CACHES, KEYTABS, Choices, damaged, mutated, random_cache, random_credential,
+                                 random_header, random_image, with_damage)
 from runs.undisturbed import Undisturbed, undisturbed
 from words.phrases import FINDINGS
 

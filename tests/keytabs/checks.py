@@ -1,5 +1,5 @@
-"""Findings of `ktcheck`, entries that it calls hidden and some that it does not, what it says of modes, and objects of
-JSON. Random checks show the rest."""
+"""Findings of `ktcheck`, entries that it calls hidden and some that it does not, what it says of modes, objects of
+JSON, and what it and `show` say of the keytab of a host in Active Directory. Random checks show the rest."""
 
 import json
 import os
@@ -7,7 +7,7 @@ from dataclasses import replace
 
 from keytabs.listings import KEY_SIZES
 from keytabs.removals import line_of
-from makers.images import B, HOST, TWO, Entry, keytab, record
+from makers.images import B, HOST, TWO, Entry, keytab, name_text, record
 from runs.harness import Case, Outcome, Report, folder_of, over, printed, run, with_mode
 
 LONG = 32_768  # the smallest length that MIT's reader takes for the end
@@ -82,6 +82,31 @@ MIXED = [(replace(B, components=(name,), version8=kvno, version32=kvno, enctype=
     (b"e", 3, 23, "weak", {}), (b"e", 3, 17, "", {"name_type": 3}), (b"f", 255, 17, "old", {}),
     (b"f", 1, 23, "weak", {"name_type": 3}), (b"b", 3, 1, "weak", {"name_type": 3, "key": bytes(8)}))]
 
+# The keytab as the tools of a domain leave it: three versions of six names, each with keys of five types, but one name
+# with rc4 keys alone.
+REALM = b"AD.TEST"
+NAMES = [(b"WEB$",), (b"host", b"WEB"), (b"host", b"web.ad.test"), (b"RestrictedKrbHost", b"WEB"),
+         (b"RestrictedKrbHost", b"web.ad.test"), (b"HTTP", b"web.ad.test")]
+ALONE = NAMES[-1]  # the name with rc4 keys alone
+SIZES = {1: 8, 3: 8, 17: 16, 18: 32, 23: 16}  # the types, and how long their keys are
+ENTRIES = [Entry(name, REALM, 1, 0, kvno, enctype, bytes([kvno]) * size, kvno)
+           for kvno in (3, 4, 5) for name in NAMES for enctype, size in SIZES.items() if name != ALONE or enctype == 23]
+
+COUNTED = ["nostrong kvno 5 HTTP/web.ad.test@AD.TEST", "entries 78 free 0 holes 0"]
+FOUND = [f"{word} {line_of(it, *ENTRIES[:at])}" for at, it in enumerate(ENTRIES)
+         for word, is_so in (("weak", it.enctype in (1, 3, 23)), ("old", it.version8 < 5)) if is_so]
+
+HEADING = "k: keytab, 78 keys of 6 principals, 48 weak!, 52 old, 1 principal with weak keys alone!"
+KEYS = {kvno: ("1! 3! aes128 aes256 rc4!" + old, "rc4!" + old) for kvno, old in ((5, ""), (4, " old"), (3, " old"))}
+TABLE = [f"{kvno}     -      {keys[name == ALONE]:28}  {name_text((*name, REALM)).decode()}"
+         for name in NAMES for kvno, keys in KEYS.items()]
+
+
+def of_host(line: str, *lines: str, status: int) -> Case:
+    """Returns a run over that keytab, which only its owner may read."""
+    return replace(over(line, f"{line} k", keytab(*ENTRIES), printed(*lines, status=status)), mode=0o100_600)
+
+
 THEOREMS = [
     Case("objects", ("ktcheck", "--json", "--older=0", "--only", "--want", "\x7f\"c\x80\x9f\xa0@R", "k", "no"),
          Outcome(1, OBJECTS.encode(), b"krbfile: no: no such file\n"), {"k": EACH}, mode=0o104_644),
@@ -120,6 +145,9 @@ CASES = [
               "weak 2", "old 2", "weak 47", "size 47", "hidden 47", "clash 47 2", "old 47"))),
     found("the first with an empty component", [ODD["an empty middle component"], Entry((b"a", b"", b"c")), B],
           "hidden 2 kvno 3 etype 17 a//b@R"),
+    of_host("ktcheck", *FOUND, *COUNTED, status=1), of_host("ktcheck -q --allow weak", *COUNTED, status=1),
+    of_host("ktcheck -q --allow weak --allow nostrong", status=0),
+    of_host("show", HEADING, f"KVNO  ADDED  {'KEYS':28}  PRINCIPAL", *TABLE, status=0),
 ]
 
 

@@ -88,16 +88,16 @@ def selections() -> list[Case]:
     found = "removed {} kvno {} etype {} {}".format
     long, many = keytab(record(Entry((b"a" * 65_500,), b"").spelled()) * 254), keytab(record(
         Entry((b"",) * 65_000, b"").spelled()) * 125)
-    kvnos = b"".join(record(replace(LEAST, version32=1_000 + at).spelled()) for at in range(256)) * (COUNT // 1024)
+    kvnos = b"".join(record(replace(LEAST, version32=1_000 + at).spelled()) for at in range(256)) * (COUNT // 256)
     front, back = record(replace(LEAST, key=b"mark").spelled()).split(b"mark")
     return [over(name, f"ktremove -n {words} k", image, wanted) for name, words, image, wanted in (
         *((name, matching(patterns), image + record(Entry(last, b"").spelled()), [
             found(len(image), 3, 17, b"/".join(last).decode() + "@")]) for name, patterns, image, last in (
                 ("stars", STARRED, long, (b"a" * 65_499 + b"b",)),
-                ("components", ["*/" * 64_999 + end for end in "bc"], many, (b"",) * 64_999 + (b"b",)))),
+                ("components", ["*/" * 64_999 + end for end in "bcdefghi"], many, (b"",) * 64_999 + (b"b",)))),
         ("stars, short names", matching(STARRED),
          keytab(record(replace(LEAST, components=(b"a",)).spelled()) * 550_000), message(1, "k: refused 9")),
-        ("versions", "--keep 255", keytab(kvnos), [found(it, 1_000, 0, "@") for it in PLACES[:COUNT // 1024 * 256:256]]),
+        ("versions", "--keep 255", keytab(kvnos), [found(it, 1_000, 0, "@") for it in PLACES[:-255:256]]),
         ("doubles", "--same", least(), [found(place, 0, 0, "@") for place in PLACES[1:]]),
         ("no doubles", "--same", keytab(*(front + number(at, 4) + back for at in range(500_000))), []))]
 

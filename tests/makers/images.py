@@ -201,10 +201,9 @@ USUAL = cache(TICKET, PA_TYPE, TICKET.removed(), fields=FIELDS)  # of most cases
 VERSION_3 = cache(replace(TICKET, second_enctype=23), version=3)  # its ticket, at 20, has two enctypes that differ
 
 
-def config_ticket(*after: bytes, first: bytes = CONFIG_FIRST, realm: bytes = CONFIG_REALM,
-                  name_type: int = 1, **changed) -> Credential:
-    """Returns the ticket with the server of a configuration entry: a first component, and those after it."""
-    return replace(TICKET, server=Name((first, *after), realm, name_type), **changed)
+def config_ticket(*after: bytes, **changed) -> Credential:
+    """Returns the ticket with the server of a configuration entry: its first component, and those after it."""
+    return replace(TICKET, server=Name((CONFIG_FIRST, *after), CONFIG_REALM), **changed)
 
 
 def element(tag: int, content: bytes, is_longer: bool = False) -> bytes:

@@ -10,9 +10,9 @@ from itertools import product
 from makers.images import TWO
 from names.named_files import BESIDE, DEFAULTS, IMAGES, KLIST, KLIST_CACHE, NEITHER, FileName, Kind
 from runs.harness import EXPLAIN, Line, Report, every, folder_of, message, run, words_of
-from runs.namespaces import STATUS, no_mounts, run_within
-from system.saving import USER as NOBODY
+from runs.system_calls import STATUS, no_mounts, run_within
 from system.saving import write
+from system.saving import USER as NOBODY
 from words.explaining import Explained, unchanged
 from words.phrases import DEFAULT
 

@@ -1,20 +1,28 @@
-"""Which file a word names, in a table, and what each command does over a file of any name: the same as over another
-name, or it says why there is no such file."""
+"""Which file a word names, with a type or without, or the variable of its kind, in a table, and what each command does
+over a file of any name: the same as over another name, or it says why there is no such file.
+
+Every command is also given a file of neither kind. No other variable is looked at. default_files has empty values and
+those that are not UTF-8.
+"""
 
 import json
 import os
-from dataclasses import dataclass
+from collections.abc import Iterator
+from dataclasses import dataclass, replace
 from enum import Enum
 from functools import cache
+from itertools import product
 
 from caches.cache_listings import HEADING
 from keytabs.checks import unchecked
-from makers.images import TWO
+from keytabs.edits import TWO_LISTED, lines
+from makers.images import TWO, keytab
 from runs.commands import CHANGES, MAKES, READS, SAVING, VALID, file_of
-from runs.harness import Line, files_in, folder_of, run, shown
+from runs.harness import Line, Report, check_rows, files_in, folder_of, run, shown
 from runs.undisturbed import PROGRAM, Undisturbed
-from words.explaining import Explained, Output, for_owner
-from words.phrases import (BEGINS_AS_NO_CACHE, BEGINS_AS_NO_KEYTAB, CAUSES, COLLECTION, NOT_READ, SHOWN_AS_NEITHER)
+from words.explaining import FINDS_NONE, Explained, Output, copy, for_owner, no_keytab, unchanged
+from words.phrases import (BEGINS_AS_NO_CACHE, BEGINS_AS_NO_KEYTAB, CAUSES, COLLECTION, LEAVE_OUT, NAMED, NOT_READ,
+                           SHOWN_AS_NEITHER, code, unknown)
 
 
 class Kind(Enum):
@@ -136,3 +144,70 @@ COMMANDS = (*(Command(each, file_of(each)) for each in READS if each.words[0] no
 DEFAULTS = tuple(each for each in COMMANDS if each.run.words[0] in ("klist", "show", "ktmatch", "ktcheck")
                  and each.file == file_of(each.run))
 KLIST, KLIST_CACHE = (next(each for each in COMMANDS if each.kind is kind) for kind in Kind)
+
+# Words that every command is tried with, and its variable; the listings are tried with all.
+SOME = ("FILE:FILE:k", "WRFILE:k", "./FILE:k", "C:k", 'ключ "\\:k', "KCM:k", "DIR::k", "DIR:k", "FILE:", "")
+# What no run looks at, but for the variable of its kind where the file is left out.
+IGNORED = {"KRB5_CLIENT_KTNAME": b"\xff", **{kind.value: b"\xff" for kind in Kind}}
+
+
+def decoys(word: str, name: str) -> dict[str, bytes]:
+    """Returns files that are no keytabs and no caches, under names that are read if a type that goes is not taken off,
+    or one that stays is."""
+    rest = word.partition(":")[2]
+    names = {word, rest, rest.partition(":")[2]} - {name, name.removeprefix("./"), ""}
+    return {each: NEITHER for each in names if "/" not in each}
+
+
+def rows() -> Iterator[Explained]:
+    """Yields each command over words, where the file is there and where it is not, and over what is no such file."""
+    for command, variable in (*product(COMMANDS, [False]), *product(DEFAULTS, [True])):
+        words = ALL if command in (KLIST, KLIST_CACHE) and not variable else SOME[:-1] if variable else SOME
+        places = [(word, place) for word in words for place in (command.run.files[command.file], None)]
+        for word, place in (*places, ("k", NEITHER)):
+            name = named(word, *command.kinds)
+            if variable:
+                name = replace(name, source=NAMED.replace("VARIABLE", command.kind.value))
+            # What is under a name of another type is never read; under that of a type alone nothing is.
+            if (place is None) == (name.text == "") or place is None and not name.other:
+                yield command.row(name, place, None if variable else word, decoys(word, name.text),
+                                  IGNORED | ({command.kind.value: word} if variable else {}))
+
+
+def unwritten(word: str, phrase: str) -> Explained:
+    """Returns a line of ktutil that writes to a name with a type: nothing is read or made, whatever is there."""
+    files = {word: NEITHER, word.partition(":")[2] or "k": NEITHER, "j": TWO}
+    why = phrase.replace("TYPE", word.partition(":")[0] + ":")
+    return unchanged("ktutil", (f"{word}: cannot write", f"line 2: {why}"), files=files,
+                     stdin=f"rkt j\nwkt {word}\n".encode(), status=3)
+
+
+# What comes before the name: the script, and the keytab that is copied from, with what is selected in it.
+OTHER = ("KCM:t: no such file", NOT_READ.replace("TYPE", "KCM:"))
+ORDER = [
+    *(unchanged(line, ("line 1: fault 1", unknown("frob")), stdin=b"frob\n") for line in (
+        "ktedit KCM:k", "ccedit KCM:c")),
+    *(copy(options, source, None, lines, to="KCM:t") for options, source, lines in (
+        ("", None, ("k: no such file", "")), ("", NEITHER, no_keytab(BEGINS_AS_NO_KEYTAB)),
+        ("", TWO[:-1], ("k: refused 1", code(1))), ("-p c@R", TWO, FINDS_NONE), ("-n", TWO, OTHER),
+        # Nothing would be saved, and it is asked for all the same.
+        ("", keytab(), OTHER))),
+]
+
+# ktutil writes to no name that begins with a type. Faults of the line's words come first.
+WRITES = [
+    *(unwritten(word, LEAVE_OUT) for word in ("FILE:", "WRFILE:k", "FILE:FILE:k")),
+    *(unwritten(word, NOT_READ) for word in ("KCM:", "KCM:k", "file:k", "wrfile:k")),
+    *(lines(f"wkt {word}", ["rkt j", f"wkt {word}"], [], files={"j": TWO}, after={word.removeprefix("./"): TWO})
+      for word in ("C:k", "./FILE:k", ":k")),
+    lines("wkt of a type goes on", ["rkt j", "wkt FILE:k", "write_kt KCM:k", "l", "wkt FILE:k FILE:k", "wkt k"],
+          TWO_LISTED, "FILE:k: cannot write", "KCM:k: cannot write", "line 5: fault 2", files={"j": TWO},
+          after={"k": TWO}, status=3),
+]
+
+CASES = [*ORDER, *WRITES]
+
+
+def check(report: Report, program: str) -> None:
+    """Runs each command over each name."""
+    check_rows(report, program, rows())

@@ -5,7 +5,7 @@ from functools import partial
 
 from makers.images import (B, FIELDS, FLAGS, OFFSET, PA_TYPE, TICKET, Entry, Name, cache, encrypted, keytab, offset,
                            own_server, ticket)
-from names.several_keytabs import MISSING, UNREAD
+from names.several_files import MISSING, UNREAD
 from runs.harness import Case, Line, Outcome, Report
 from runs.system_calls import preloaded
 from words.explaining import FAILED, FULL, Explained, for_owner, no_keytab, over_files
@@ -131,7 +131,7 @@ TYPED = ("KCM:k: no such file", NOT_READ.replace("TYPE", "KCM:"))
 
 def show(line: str | Line, blocks: list[str], *output: tuple[str, str], **more) -> Explained:
     """Returns a view of some of the files, with an empty line between them, and its messages."""
-    return over_files("show", line, FILES, "\n".join(blocks).encode(), *output, setting=for_owner, **more)
+    return over_files("show", line, "\n".join(blocks).encode(), *output, files=FILES, setting=for_owner, **more)
 
 
 CASES = [

@@ -10,7 +10,7 @@ from pages.documents import sources
 from runs.commands import COMMANDS
 from runs.harness import TOP, Report, run
 from words import phrases
-from words.completions import helped, offered
+from words.command_lines import helped, offered
 from words.mistakes import MISTAKES, NEAR
 
 PAGES = ("docs/krbfile.1", "docs/krbfile.5", "docs/krbfile.3")

@@ -17,7 +17,7 @@ from random import Random
 
 from keytabs.listings import BY_NAME
 from makers.images import Entry, cache, keytab, offset
-from makers.random_caches import random_credential, random_name
+from makers.random_files import random_credential, random_name
 from peers.beside_mit import SURROUNDINGS, Mit, are_there, check_seeds, differences_of, differing_types, lack, mit_klist
 from runs.harness import Check, Outcome, Report, differences, every, files_in, folder_of, run
 

@@ -67,17 +67,12 @@ def case_of(fields: dict) -> Case:
     return Case(fields["id"], tuple(fields["argv"]), wanted, before, before | after, stdin.encode())
 
 
-def said(answer: str) -> str:
-    """Returns what krbfile says where MIT's library gives that answer."""
-    words = answer.split()
-    return f" kvno {words[2]} etype {words[4]} " if words[0] == "found" else CODES[words[2]]
-
-
 def check(report: Report, program: str) -> None:
     """Runs each case. Those of look-ups say what MIT's library answers."""
     for fields in cases():
         case_of(fields).check(report, program)
     for fields in cases("ktfind"):
-        printed = given(fields["stdout"]) + given(fields["stderr"])
-        is_other = (said(fields["mit"]).encode() not in printed) != (fields["id"] == WRAPPED)
+        printed, words = given(fields["stdout"]) + given(fields["stderr"]), fields["mit"].split()
+        due = f" kvno {words[2]} etype {words[4]} " if words[0] == "found" else CODES[words[2]]
+        is_other = (due.encode() not in printed) != (fields["id"] == WRAPPED)
         report.check(f"MIT's answer to {fields['id']}", [fields["mit"]] * is_other)

@@ -1,21 +1,26 @@
-"""Keytabs that ours changed, and entries that ktcheck calls hidden, beside MIT's programs; and what README's first
-lines say of these, and that ours do otherwise."""
+"""Keytabs that ours changed, and entries that ktcheck calls hidden, beside MIT's programs; saves in place beside those,
+which lock a file to read it, and to add an entry to it; and what README's first lines say of them, and that ours do
+otherwise."""
 
 import re
 import sys
+from concurrent.futures import Future, ThreadPoolExecutor, wait
 from dataclasses import replace
 from functools import partial
 from random import Random
 
 from keytabs.checks import EVEN, ODD
-from keytabs.listings import BY_NAME, KEY_SIZES
 from keytabs.copies import OTHER, THIRD
 from keytabs.edits import ADD_B, ADD_C, ADD_HOST
+from keytabs.listings import BY_NAME, KEY_SIZES
 from makers.images import B, BIG, END, HOST, LITTLE, TWO, Entry, keytab, old
 from peers.beside_mit import SURROUNDINGS, Mit, are_there, as_json, check_seeds, entries, lack, mit_klist
 from peers.caches_beside_mit import REALM, Failed, Realm, in_realm
-from runs.harness import EXPLAIN, Report, every, files_in, folder_of, printed, run, text
-from runs.undisturbed import preload_library, undisturbed
+from runs.harness import EXPLAIN, SECONDS, Outcome, Report, differences, every, files_in, folder_of, printed, run, text
+from runs.system_calls import Halt, halted
+from runs.undisturbed import IN_PLACE, Undisturbed, preload_library, undisturbed
+from system.changes_at_once import names_of
+from system.saving import ADD_LONG
 
 # Entries of each enctype that has a name, with quoted names, and versions of more than 8 bits.
 EACH_ETYPE = [f"add {300 * number} {number} {number} {bytes(range(size)).hex()} a\\/b\\@/c d\\n\\\\/e@R\\/S"
@@ -210,7 +215,54 @@ def check_readme(report: Report, program: str) -> None:
         report.check("delold wants the admin server", ["it goes"] * (gone.status == 0))
 
 
+MOMENT = 0.3  # how long a run is watched that has to wait
+FIRST_NAME, MITS, OURS = "host/a", "b", "a/long/name"  # the names at first, of MIT's entry, and of a run's
+
+# MIT's programs, halted while they have the lock: one that reads the file, and one that begins to add what is in J.
+READS = ("klist", undisturbed("-k k"), Halt("read", paths=("k",)))
+ADDS = ("ktutil", undisturbed("", b"rkt j\nwkt k\nq\n"), Halt("write", paths=("k",)))
+J = keytab(Entry((b"b",)))
+
+# One of these, the options of a run beside it, whether that waits, where it puts its entry, and the names then.
+ROWS = (
+    (READS, (IN_PLACE,), True, 53, [FIRST_NAME, OURS]), (READS, (), False, 53, [FIRST_NAME, OURS]),
+    (ADDS, (IN_PLACE,), True, 98, [FIRST_NAME, MITS, OURS]), (ADDS, (), True, 98, [FIRST_NAME, MITS, OURS]))
+
+
+def ended_beside(program: str, options: tuple[str, ...], folder: str, mits: tuple[str, Undisturbed, Halt],
+                 seconds: float) -> tuple[Outcome, bool, Outcome]:
+    """Returns how a run ends that begins while one of MIT's programs is halted, whether it waits for that many seconds,
+    and how MIT's program ends."""
+    started: list[tuple[Future[Outcome], bool]] = []
+    with ThreadPoolExecutor(1) as pool:
+
+        def begin(folder: str) -> None:
+            """Starts the run."""
+            ours = pool.submit(run, program, ("ktedit", *options, "k"), folder, ADD_LONG)
+            started.append((ours, ours in wait([ours], seconds).not_done))
+
+        peer, one, halt = mits
+        theirs = halted(peer, one, folder, halt, begin, SURROUNDINGS)
+        (ours, waits), = started
+        return ours.result(), waits, theirs
+
+
+def check_peers(report: Report, program: str) -> None:
+    """Checks that a save in place waits for who reads or adds, and that one that replaces waits for who adds."""
+    for mits, options, has_to_wait, place, wanted in ROWS:
+        with folder_of({"k": keytab(HOST), "j": J}) as folder:
+            ours, waits, theirs = ended_beside(program, options, folder, mits, MOMENT if has_to_wait else SECONDS)
+            names = names_of("-k", files_in(folder)["k"])
+        faults = differences(printed(f"placed {place}"), ours)
+        faults += [] if names == wanted else [f"{names}, not {wanted}"]
+        faults += [] if waits == has_to_wait else [f"it waits: {waits}"]
+        is_listed = FIRST_NAME.encode() in theirs.out and OURS.encode() not in theirs.out
+        faults += [f"{theirs}"] if theirs.status or (mits is READS and not is_listed) else []
+        report.check(f"beside MIT's {mits[0]}, {' '.join(options) or 'replacing'}", faults)
+
+
 check = every(every(check_read, check_same, check_hidden, of="keytabs beside MIT's programs", lack=lack),
               every(check_readme, of="what README says of MIT's programs",
                     lack=partial(lack, "klist", "ktutil", "k5srvutil")),
+              every(check_peers, of="saves in place beside MIT's programs", needs=("strace",), lack=lack),
               in_realm("copies used by MIT's programs", check_used, check_old))

@@ -1,17 +1,28 @@
-"""Caches of MIT's kinit and kvno that ccedit and ccremove change: MIT's programs can still use them.
+"""Tickets of MIT's kinit and kvno, in the realm and with the KDC of caches_beside_mit. Caches of them that ccedit and
+ccremove change: MIT's programs can still use them. And `ktmatch` beside kvno, which opens tickets with the keys of a
+keytab: tickets of before and after changes of keys, and keytabs of some of these keys.
 
-The realm and its KDC are those of caches_beside_mit.
+kvno tries each key of a ticket's type, whatever its name and version: no two keys here have the same numbers, in
+eight bits neither.
+
+Storms over one cache: runs of ccedit and of ccremove beside kvno, which stores tickets in it. What our runs report as
+saved is there afterwards, the cache is whole, and MIT's klist lists it as ours does.
 """
 
+import json
 import re
 from collections.abc import Iterator
 from contextlib import contextmanager
 from dataclasses import replace
+from random import Random
 
-from makers.images import keytab
-from peers.beside_mit import as_json, differences_of
-from peers.caches_beside_mit import HOST, USER, Realm, in_realm
-from runs.harness import Outcome, Report, differences, files_in, folder_of, message, printed, run
+from computed.batches import Rounds
+from makers.images import Entry, keytab
+from peers.beside_mit import SEEDS, as_json, differences_of
+from peers.caches_beside_mit import ETYPES, HOST, REALM, USER, Realm, in_realm
+from runs.harness import Outcome, Report, differences, every, files_in, folder_of, message, printed, run
+from system.changes_at_once import Run, rage
+from system.saving import write
 
 TGT = "krbtgt/CACHE.TEST@CACHE.TEST"
 HOST_TEXT = f"{HOST}@CACHE.TEST"
@@ -105,4 +116,111 @@ def check_version_3(*where: Report | str | Realm) -> None:
         one.remove(HOST_TEXT)
 
 
-check = in_realm("changes of caches beside MIT's programs", check_removed, check_version_3)
+WHAT, ONCE = "matches beside MIT's kvno", "svc/once"  # a service whose key never changes
+# Services, and the versions of the keys that each has in turn.
+VERSIONS = {"svc/h": (1, 2, 255, 300, 65_000), "svc/H": (2, 259, 1_001), HOST: (3, 260), ONCE: (7,)}
+
+
+def tickets(made: Realm, folder: str) -> list[tuple[str, str]]:
+    """Gives each service its keys in turn, of two types, the first of which is that of tickets, and adds them to the
+    keytab `all`. Returns a cache with a ticket of each version, and its service."""
+    found = []
+    for at, (name, kvno) in enumerate((name, kvno) for name, versions in VERSIONS.items() for kvno in versions):
+        etypes = ",".join(f"{each}:normal" for each in (ETYPES * 3)[at:at + 2])
+        for line in (f"cpw -randkey -e {etypes} {name}", f"modprinc -kvno {kvno} {name}",
+                     f"ktadd -norandkey -k all {name}"):
+            made.call("kadmin.local", "-q", line, folder=folder)
+        for words in (USER, ("kvno", name)):
+            made.call(*words, folder=folder, KRB5CCNAME=f"FILE:c{at}")
+        found.append((f"c{at}", name))
+    return found
+
+
+def written(random: Random, entry: Entry) -> Entry:
+    """Returns an entry as some program writes it: with a version of 32 bits, of eight alone, or with none."""
+    if entry.components == tuple(ONCE.encode().split(b"/")) and random.random() < 0.5:
+        return replace(entry, version8=0, version32=0)
+    return replace(entry, version32=None) if random.random() < 0.5 else entry
+
+
+def check_opened(report: Report, program: str, made: Realm) -> None:
+    """Compares which tickets are opened by keytabs of some of the keys."""
+    with folder_of({"k": keytab(*made.keys())}) as folder:
+        caches = tickets(made, folder)
+        entries = [Entry(tuple(each["principal"].partition("@")[0].encode().split(b"/")), REALM, 1, 0,
+                         each["kvno"] % 256, each["etype"], bytes.fromhex(each["key_hex"]), each["kvno"])
+                   for each in as_json(program, folder, "-kK", "all")["entries"]]
+        opened = []
+        for random in map(Random, range(SEEDS)):
+            image = keytab(*(written(random, it) for it in random.sample(entries, random.randrange(len(entries) + 1))))
+            write(f"{folder}/t", image)
+            ours = run(program, ("ktmatch", "--json", "t", *(cache for cache, _ in caches)), folder).out.splitlines()
+            for (cache, name), line in zip(caches, ours, strict=True):
+                env = made.surroundings() | {"KRB5CCNAME": f"FILE:{cache}"}
+                theirs = run("kvno", ("-k", "t", name), folder, env=env)
+                one, = json.loads(line)["tickets"]
+                opened.append((theirs.status == 0, one["match"] == "opens", f"{line}: {theirs.err}, {image.hex()}"))
+    report.check(WHAT, [why for is_theirs, is_ours, why in opened if is_theirs != is_ours][:3])
+    counts = [sum(is_theirs is each for is_theirs, _, _ in opened) for each in (False, True)]
+    report.check(f"{WHAT}: cases", [] if min(counts) >= 200 and len(entries) == 2 * len(caches) else [f"{counts}"])
+
+
+EACH = 15  # how many runs of each command there are
+WITHIN = 0.5  # within how many seconds they begin
+# Services whose tickets are removed, and those whose tickets are added.
+GOING, COMING = (tuple(f"svc/{letter}{number}" for number in range(EACH)) for letter in "rs")
+
+
+def runs_of(program: str) -> list[Run]:
+    """Returns the runs of a storm. Ours may be refused, but only because of what MIT's do meanwhile."""
+    runs = []
+    for number, (going, coming) in enumerate(zip(GOING, COMING, strict=True)):
+        name = f"{going}@CACHE.TEST"
+        runs += [
+            Run(name, (program, "ccremove", "-p", name, "c"), removes=True),
+            Run(f"a{number}", (program, "ccedit", "c"), f"config a{number} - v\n"),
+            Run(f"{coming}@CACHE.TEST", ("kvno", coming), is_mits=True),
+        ]
+    return runs
+
+
+def faults_of(runs: list[Run], listed: dict) -> list[str]:
+    """Returns the faults of the runs and of the cache that they left, as our klist lists it: services and keys."""
+    if not listed or listed["fault"]:
+        return [f"the cache is not whole: {listed}"]
+    names = {ticket["server"] for ticket in listed["tickets"]} | {value["key"] for value in listed["config"]}
+    failed = [f"{each.name}: {each.output!r}" for each in runs if each.is_mits and each.started.returncode]
+    return failed + [fault for each in runs for fault in each.faults(names, True)]
+
+
+def storm(program: str, made: Realm, seed: int) -> list[str]:
+    """Returns the faults of a storm."""
+    runs = runs_of(program)
+    with folder_of({"k": keytab(*made.keys())}) as folder:
+        made.call(*USER, folder=folder)
+        made.call("kvno", *GOING, folder=folder)
+        for each in runs:
+            each.start(folder, made.surroundings())
+        rage(runs, Random(seed), WITHIN)
+        found = faults_of(runs, as_json(program, folder, "c"))
+        found += differences_of(program, folder, "-f", "-C")
+        got = run(program, ("ccremove", "-p", "krbtgt/CACHE.TEST@CACHE.TEST", "c"), folder)
+        left = sorted(files_in(folder))
+        found += [] if (got.status, left) == (0, ["c", "k"]) else [f"then {got}, and {left}"]
+        made.call(*USER, folder=folder)
+        made.call("kvno", *GOING, *COMING, folder=folder)
+    return found
+
+
+def check_rounds(report: Report, program: str, seeds: range) -> None:
+    """Runs the storms of some seeds, if MIT's programs are installed."""
+    def check_storms(report: Report, program: str, made: Realm) -> None:
+        for seed in seeds:
+            report.check(f"ccedit and ccremove beside kvno, round {seed}", storm(program, made, seed)[:3])
+
+    in_realm("changes of a cache beside MIT's kvno", check_storms, more=(*GOING, *COMING))(report, program)
+
+
+TOPICS = (Rounds(check_rounds, usual=3, share=1_000, name="tickets_at_once"),)
+check = every(in_realm("changes of caches beside MIT's programs", check_removed, check_version_3),
+              in_realm(WHAT, check_opened, more=("svc/H", ONCE), tools=("kadmin.local",)))

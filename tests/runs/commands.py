@@ -5,8 +5,7 @@ import re
 from dataclasses import dataclass, replace
 from functools import partial
 
-from keytabs.edits import DAMAGED
-from keytabs.ktutil_lines import KEY
+from keytabs.edits import DAMAGED, KEY
 from makers.images import (B, END, HOST, OFFSET, PA_TYPE, TICKET, TWO, USUAL, VERSION_3, Entry, Name, cache, config,
                            encrypted, header_field, hole, keytab, old, record, ticket, ticket_of)
 from runs.harness import Case, text

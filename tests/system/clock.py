@@ -4,10 +4,9 @@ are old, or aged, for long enough. Over several files the clock is read once."""
 from collections.abc import Iterator
 from dataclasses import replace
 
-from caches.cache_listings import HEADING, line_of
+from caches.cache_listings import HEADING, TICKETS, ask, line_of
 from caches.overviews import summary
-from caches.valid_tickets import TICKETS, ask
-from keytabs.ktutil_lines import ADDENT, KEY, TIMES
+from keytabs.edits import ADDENT, KEY, TIMES
 from keytabs.removals import FOUR, X, versioned
 from makers.images import HOST, OFFSET, PA_TYPE, TICKET, USUAL, cache, keytab, offset
 from runs.harness import BAD_LINE, Case, Outcome, Report, message, over, printed, text, with_mode, words_of
@@ -32,7 +31,8 @@ EXPLAINED = Outcome(3, err=NO_CLOCK.err + f"krbfile: {CLOCK}\n".encode())
 AGE, EXPIRED, OLDER = "ktremove -k old --age 0", "ccremove --expired", "ktcheck --older 0"
 ENDED = (
     (NO_CLOCK, (f"{AGE} k", "ktremove --keep 9 --age 0 k", f"{AGE} -n k", f"{AGE} no k", f"{AGE} KCM:k",
-                f"{EXPIRED} c", f"{EXPIRED} -n c", f"{EXPIRED} no c", f"{EXPIRED} KCM:c", f"{EXPIRED} -p krbtgt/R@R c", "klist -l --json no c",
+                f"{EXPIRED} c", f"{EXPIRED} -n c", f"{EXPIRED} no c", f"{EXPIRED} KCM:c",
+                f"{EXPIRED} -p krbtgt/R@R c", "klist -l --json no c",
                 f"{OLDER} k", f"{OLDER} -q --json no KCM:k", OLDER, "show no k c", "show -k")),
     (EXPLAINED, (f"--explain {AGE} k", f"--explain {EXPIRED} c", f"--explain {OLDER} k", "--explain show k")),
     (with_mode("old 2 kvno 3 etype 17 host/a@R", "entries 4 free 0 holes 0", is_wrong=False), ("ktcheck k",)),
@@ -42,12 +42,6 @@ ENDED = (
     (Outcome(3), ("klist -s c", "klist -s --for 0 c", "klist -s no", "klist -s k", "klist -s KCM:c", "klist -s",
                   "--explain klist -s c")),
 )
-
-# A ticket ends at each of these seconds, but the first never; the first other one that is left at a time is that of its
-# index.
-ENDS = (0, 1, 1_700_000_000, 2**31, 2**32 - 2, 2**32 - 1)
-LEFT = ((1, 2), (1_699_999_999, 2), (1_700_000_000, 3), (1_700_000_001, 3), (2**31 - 1, 3), (2**31, 4),
-        (2**32 - 2, 5), (2**32 - 1, 6))
 
 # A time and an age, and whether an old entry is removed then, whose newest version was made at 1,000,000.
 AGED = ((1_000_000, 0, True), (999_999, 0, False), (1_000_007, 7, True), (1_000_006, 7, False), (1_000_007, 8, False),
@@ -63,15 +57,6 @@ ENDING = ((1_000_000, 999_999, 0, True), (1_000_000, 1_000_000, 0, False), (1_00
           (2**32 - 1, 2**32 - 2, 0, True), (2**32 - 1, 2**32 - 1, 0, False), (2**32 - 1, 1, 2**32 - 3, True),
           (2**32 - 1, 1, 2**32 - 2, False), (2**32 - 1, 2**32 - 1, 1, False), (1_000_000, 999_399, "10m", True),
           (1_000_000, 999_400, "10m", False))
-
-
-def expired() -> Iterator[Row]:
-    """Yields removals of tickets: each has expired from the second in which it ends."""
-    tickets = [replace(TICKET, endtime=end) for end in ENDS]
-    for now, count in LEFT:
-        removed = [f"removed {22 + 108 * number} krbtgt/R@R" for number in range(1, count)]
-        before, after = cache(*tickets), cache(tickets[0], *tickets[count:])
-        yield over(f"expired at {now}", f"{EXPIRED} c", before, removed, after), {"CLOCK": now}
 
 
 def checked(name: str, line: str, seconds: int, is_aged: bool) -> Case:
@@ -95,16 +80,19 @@ def aged() -> Iterator[Row]:
 
 
 def valid() -> Iterator[Row]:
-    """Yields questions about a ticket: it is valid until the second in which it ends, and the KDC's offset changes
-    nothing."""
+    """Yields questions about a ticket, and its removal: it is valid until the second in which it ends, and the KDC's
+    offset changes nothing."""
     for end, now, seconds, is_valid in ENDING:
-        image = cache(replace(TICKET, endtime=end), fields=offset(1_000_000_000, 0))
+        fields, gone = offset(1_000_000_000, 0), ["removed 34 krbtgt/R@R"]
+        image = cache(replace(TICKET, endtime=end), fields=fields)
         rows = {f"klist -s --for {seconds} c": Outcome(1 - is_valid)}
         if seconds == 0:
             rows["klist -s c"] = Outcome(1 - is_valid)
             rows["klist -l c"] = Outcome(0, HEADING + line_of("c", not is_valid))
             members = f'1,"endtime":{end},"expired":{str(not is_valid).lower()}'
             rows["klist -l --json c"] = Outcome(0, summary("c", members))
+            yield over(f"{EXPIRED}, {end} at {now}", f"{EXPIRED} c", image, [] if is_valid else gone,
+                       image if is_valid else cache(fields=fields)), {"CLOCK": now}
         yield from ((over(f"{line}, {end} at {now}", line, image, wanted), {"CLOCK": now})
                     for line, wanted in rows.items())
     yield from ((ask(name, cache(*those), wanted), {"CLOCK": 1_800_000_000}) for name, those, wanted in TICKETS)
@@ -149,5 +137,5 @@ THEOREMS = [replace(case, clock=setting["CLOCK"]) for case, setting in (*aged(),
 def check(report: Report, program: str) -> None:
     """Makes each run."""
     under = preloaded(report, program, "the clock")
-    for case, setting in (*expired(), *aged(), *valid(), *unread(), *once(), *known()) if under else ():
+    for case, setting in (*aged(), *valid(), *unread(), *once(), *known()) if under else ():
         under.check(report, case, **setting)

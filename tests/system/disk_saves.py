@@ -9,7 +9,7 @@ from makers.images import B, HOST, TWO, keytab
 from runs.commands import CHANGES, CLASH, LEAVES, MAKES, NEW, OLD, READS, SAVING, SCRIPT, WALK, Run, copies, file_of
 from runs.harness import EXPLAIN, Case, Line, Outcome, Report, differences, folder_of, message, printed, run, words_of
 from runs.undisturbed import IN_PLACE, in_place, undisturbed
-from system.pipe_files import fed
+from system.outputs import fed
 from system.saving import (ADD, GROUP, PLACED, SAVED, UNREAD, UNSAVED, USER, Owned, Place, as_another, as_user, at,
                            check_over, explained, faults_over, link, tree_faults, unsaved, write)
 from words.phrases import CAUSES

@@ -12,8 +12,7 @@ from dataclasses import replace
 from makers.images import TWO
 from runs.commands import CHANGES, LEAVES, OLD, READS, SAVING, SCRIPT, Run, both_ways, file_of
 from runs.harness import Case, Report, differences, every, faults_of, files_in, folder_of, run
-from runs.namespaces import disk, no_disks
-from runs.system_calls import Halt, halted, traced, under_strace
+from runs.system_calls import Halt, disk, halted, no_disks, traced, under_strace
 from runs.undisturbed import IN_PLACE, Undisturbed, in_place, undisturbed
 from system.saving import (ADD, B_OLD, EQUAL, LONGER, PLACED, SAVED, check_over, edit, refused, run_over, state_of,
                            tree_faults, with_words, write)

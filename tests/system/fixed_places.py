@@ -15,7 +15,7 @@ from shlex import quote
 from makers.images import HOST, TWO, USUAL, Entry, keytab
 from runs.commands import CHANGES, COMMANDS, LEAVES, NEW, OLD, READS, SAVING, SCRIPT, file_of, renamed
 from runs.harness import EXPLAIN, Case, Report, differences, every, faults_of, files_in, folder_of, limit, run
-from runs.namespaces import disk, no_disks, no_mounts, run_within
+from runs.system_calls import disk, no_disks, no_mounts, run_within
 from runs.undisturbed import IN_PLACE, Undisturbed, in_place, undisturbed
 from system.saving import (ADD, B_OLD, EQUAL, GROUP, LINES, LONGER, MIXED, PLACED, UNSAVED, USER, Owned, as_another, at,
                            check_over, explained, faults_over, kept, last_line, refused, tree_faults, with_words, write)

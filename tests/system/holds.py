@@ -15,8 +15,8 @@ from runs.harness import (EXPLAIN, SECONDS, Case, Outcome, Report, differences, 
 from runs.undisturbed import IN_PLACE, frame
 from system.failing_streams import NO_OUTPUT
 from system.file_locks import is_locked
-from system.saving import HOLD_SAVED, as_another, check_over, explained, last_line, tree_faults
-from words.explaining import CUT_CACHE, Explained, case, failed, in_the_way, link, no_keytab, unchanged
+from system.saving import HOLD_SAVED, as_another, check_over, explained, last_line, link, tree_faults
+from words.explaining import CUT_CACHE, Explained, case, failed, in_the_way, no_keytab, unchanged
 from words.phrases import (BAD_DEFAULT, BAD_HEADER, BEGINS_AS_CACHE, BEGINS_AS_NO_CACHE, BEGINS_AS_NO_KEYTAB, CAUSES,
                            ERRORS, GIVEN_DAMAGED, HELD_AS_KEYTAB, LARGE, NOT_WHOLE, SHORT, TO_A_PROGRAM, code)
 
@@ -111,7 +111,7 @@ CASES = [
     # It could not be saved: what is in the way is beside the file that a link leads to. What a load says comes first.
     case("hold of a link", "hold -k l", TWO, ("l: cannot write", CAUSES["in the way"].replace("NAME", "k")), status=3,
          out=last_line(ERRORS["in the way"]), stdin=EMPTY,
-         setting=lambda folder: (in_the_way(folder), link("k")(folder))),
+         setting=lambda folder: (in_the_way(folder), link("l", "k")(folder))),
     refused(K, ("k: refused 1", code(1)), files={"k": TWO[:-1]}, **IN_THE_WAY),
     refused(C, ("k: no such file", ""), **IN_THE_WAY),
     given(PLACED, TWO, EMPTY, after=NONE, name="in the way", **IN_THE_WAY),

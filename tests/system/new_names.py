@@ -14,7 +14,7 @@ from runs.undisturbed import IN_PLACE, Undisturbed, in_place
 from system.file_locks import RUNS
 from system.saving import (ADD, SAVED, USER, Place, as_another, at, check_over, faults_over, last_line, link, run_over,
                            unsaved, write)
-from words.explaining import Explained, in_the_way_of, unchanged
+from words.explaining import Explained, unchanged
 from words.phrases import CAUSES
 
 STRANGER = 1234  # another user who is not root
@@ -25,12 +25,6 @@ def own(path: str) -> str:
     return path.removesuffix(".krbfile")
 
 
-def filled(path: str) -> None:
-    """Makes a folder with a file."""
-    os.mkdir(path)
-    write(os.path.join(path, "other"), b"other")
-
-
 def owned_by(owner: int, mode: int = 0o600) -> Place:
     """Returns a function that makes a file of that owner."""
     return lambda path: (write(path, b"strange", mode), os.chown(path, owner, -1))
@@ -38,7 +32,8 @@ def owned_by(owner: int, mode: int = 0o600) -> Place:
 
 # What no killed run leaves.
 STRANGE: list[tuple[str, Place]] = [
-    ("an empty folder", os.mkdir), ("a folder", filled), ("a link to a file", lambda path: os.symlink("other", path)),
+    ("an empty folder", os.mkdir), ("a folder", lambda path: os.makedirs(os.path.join(path, "other"))),
+    ("a link to a file", lambda path: os.symlink("other", path)),
     ("a link to the file", lambda path: os.symlink(os.path.basename(own(path)), path)),
     ("a link that dangles", lambda path: os.symlink("no", path)),
     ("a link to itself", lambda path: os.symlink(os.path.basename(path), path)), ("a pipe", os.mkfifo),
@@ -151,7 +146,7 @@ def of_names() -> Iterator[Explained | Case]:
         yield from (renamed(run, name) if IN_PLACE in run.words else unsaved_as(run, name, "ENAMETOOLONG")
                     for name in ("x" * 248, "x" * 255))
         if IN_PLACE not in run.words:
-            yield unsaved_as(run, file_of(run), "in the way", in_the_way_of(file_of(run)))
+            yield unsaved_as(run, file_of(run), "in the way", at(f"{file_of(run)}.krbfile", os.mkdir))
     yield from (unsaved_as(run, "d/k", "ENOENT") for run in MAKES)
 
 

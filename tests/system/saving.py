@@ -6,12 +6,12 @@ from collections.abc import Callable
 from dataclasses import dataclass, replace
 from pathlib import Path
 
-from keytabs.ktutil_lines import ADDENT, KEY
+from keytabs.edits import ADDENT, KEY
 from makers.images import B, HOST, TWO, keytab
 from runs.commands import CHANGES, COMMANDS, NEW, OLD, SCRIPT, Run, file_of
 from runs.harness import EXPLAIN, Case, Outcome, Report, differences, folder_of, message, run, text
-from runs.undisturbed import explained as with_words
 from runs.undisturbed import undisturbed
+from runs.undisturbed import explained as with_words
 from words.phrases import AFTERMATHS, CAUSES, ERRORS
 
 # A run of that script, what it prints, and so over a file with another entry.
@@ -94,7 +94,7 @@ def at(name: str, make: Callable[[str], object]) -> Place:
     return lambda folder: make(os.path.join(folder, name))
 
 
-def link(name: str, text: str) -> Place:
+def link(name: str, text: str | bytes) -> Place:
     """Returns what makes a link of that name and text."""
     return at(name, lambda path: os.symlink(text, path))
 

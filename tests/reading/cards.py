@@ -1,13 +1,22 @@
-"""The cards, as lines of text."""
+"""The cards, as lines of text, with samples of definitions: equations that the prover proves, and runs that tests
+compare with the definitions.
+
+There is a card of each case: few lines of few columns, and those to be complete are. What computes on these is below
+samples. What a contract says does not change with the constants of the code: no definition names one, and clauses only
+sizes.
+"""
 
 import re
 import textwrap
 from collections import Counter
+from contextlib import suppress
 from functools import cache
 
-from reading.cases import CARDS, CLOSED, FRAME, Contract, View
-from reading.sources import OWN, Place
-from reading.worked import Runs
+from computed.terms import NotComputed, Words, term_of
+from pages.documents import paths, read
+from reading.cases import CARDS, CLOSED, CRATES, FRAME, OWN, Contract, Place, Sources, View, all_sources, run_functions
+from runs.harness import TOP, Case, Report, files_in, folder_of, run
+from topics import modules
 
 LINES, COLUMNS, BRIEF = 550, 100, 70  # the most lines and columns of a card, and the lines that comments have of these
 BY_COMMENTS = "By their comments:"
@@ -27,6 +36,64 @@ prints (`Displays`), saves and prints (`Saves`) or reports (`Fails`). What a def
 below it; `cells.x` is krb_cells' x. In brackets: where it is from. `e.g.`: a value, or a run of the
 tests and a line that it prints by the definition. Words of --explain alone are not opened.
 """
+
+THEOREM = re.compile(r"^(?:pub )?[\w'-]+ : (.*(?:\n .*)*)(?=\nunfolding |\n[\w'-]+ )", re.M)
+FILES = ("Cited", "Given", "NamesAndTimes", "Stores", "Ends")
+QUOTED = re.compile(r'codes "((?:[^"\\]|\\.)*)"')
+LONGEST = 92  # the characters of a sample
+
+
+def equations(sources: Sources) -> dict[Place, str]:
+    """Returns for each definition the first equation of it that is short."""
+    found: dict[Place, str] = {}
+    for own, text in (sources.add(CRATES / "samples" / "proofs" / f"{name}.antt") for name in FILES):
+        for statement in THEOREM.findall(text):
+            sides = re.split(r"\)\s*× \(", " ".join(statement.split()))
+            for side in (it.strip("()") if len(sides) > 1 else it for it in sides):
+                bare = side.rpartition("→ ")[2].replace(" ≡ ", " = ")
+                shown, named = re.sub(r'\(("[^"]*")\)', r"\1", QUOTED.sub(r'"\1"', bare)), sources.named_in(bare, own)
+                if named and side.count("≡") == 1 and len(shown) <= LONGEST:
+                    found.setdefault(named[0], shown)
+    return found
+
+
+@cache
+def rows() -> list[tuple[Words, Case]]:
+    """Returns the runs of the tests that are compared with the definitions, those in THEOREMS first."""
+    found = []
+    tables = [getattr(module, name, ()) for name in ("THEOREMS", "CASES") for module in modules().values()]
+    for row in (row for table in tables for row in table if isinstance(row, Case) and row.wanted.status != 2):
+        with suppress(NotComputed):
+            term_of(row)
+            found.append((Words(row), row))
+    return found
+
+
+def has(words: Words, option: str) -> bool:
+    """Returns whether a command line has an option, perhaps with a value."""
+    name, _, value = option.partition("=")
+    return name in words.flags or any(one == name and value in ("", it) for one, it in words.values)
+
+
+class Runs:
+    """The lines that the tests' runs of a case print, each after the words of its run."""
+
+    def __init__(self, name: str) -> None:
+        case = CARDS[name]
+        self.lines = [(" ".join(map(str, row.words)), line) for words, row in rows() if words.command == case.command
+                      and all(has(words, it) for it in case.has.split())
+                      and not any(has(words, it) for it in case.lacks.split())
+                      for line in (row.wanted.out + row.wanted.err).decode("utf-8", "replace").splitlines()]
+
+    def of(self, definition: str) -> str:
+        """Returns a run that prints a text of a definition, and the line that it prints so, or a part of it."""
+        for text in sorted((it.split("\\n")[0] for it in QUOTED.findall(definition)), key=len, reverse=True):
+            found = [it for it in self.lines if len(text.strip()) > 2 and text in it[1] and it[1].isprintable()]
+            for words, line in sorted(found, key=lambda it: len("".join(it)))[:1]:
+                room = LONGEST - len(words) - 4
+                part = line if len(line) <= room else f"..{line[line.index(text):][:room - 4]}.."
+                return f'{words}: "{part}"'
+        return ""
 
 
 @cache
@@ -146,3 +213,58 @@ def card_of_frame(view: View, contracts: list[Contract], frame: set[Place], equa
     parts = {"What is read, printed, reported and saved": [it for it in order if it not in last], "Format": last}
     lines = [f"The frame: {len(frame)} definitions that nearly all commands share. The other cards say how to read."]
     return lines + Card(view, equations, None).body(LINES - len(lines), parts)
+
+
+MAKER = f"{TOP}/tests/definitions"
+
+SIZES = {"FULL", "BATCH"}  # the constants that clauses may name: what is gathered before a write, and quoted at once
+CONSTANT = re.compile(r"^ *(?:pub(?:\(\w+\))? )?(?:const|static) (\w\w+):.* =", re.MULTILINE)
+CLAUSE = re.compile(r"^ +(?:requires|ensures)\b.*?\}$", re.MULTILINE | re.DOTALL)
+
+COMPLETE = {"klist-k", "ktremove", "ktremove-k-old"}  # the cards that have all definitions in full
+
+
+def file_of(name: str) -> str:
+    """Returns the name that the card of a case has as a file."""
+    return re.sub("[ -]+", "-", name)
+
+
+def faults(name: str, card: str) -> list[str]:
+    """Returns the lines that are too many or too long, and how a card is not complete that is to be."""
+    lines = card.splitlines()
+    left = BY_COMMENTS in lines or " more are below these: " in card
+    return (["not complete"] * (left and name in COMPLETE) + [f"{len(lines)} lines"] * (len(lines) > LINES)
+            + [line for line in lines if len(line) > COLUMNS])
+
+
+def constants_named() -> set[str]:
+    """Returns the files of definitions that name constants of the code, and the constants that clauses name."""
+    texts = {path: read(path) for path in paths("crates/*/specs/**/*.antt", "crates/*/src/**/*.rt")}
+    clauses = "".join(clause for text in texts.values() for clause in CLAUSE.findall(text))
+    constants = {name for text in texts.values() for name in CONSTANT.findall(text)}
+    return {path for path, text in texts.items() if "TheConstants" in text} | constants & {*re.findall(r"\w+", clauses)}
+
+
+def not_computed() -> list[str]:
+    """Returns what computes on cards that are complete, but not below any theorem or run of crates/samples."""
+    sources = all_sources()
+    texts = map(sources.add, sorted(CRATES.glob("samples/proofs/*.antt")))
+    named = [it for own, text in texts for it in sources.named_in(re.sub("^use .*", "", text, flags=re.M), own)]
+    found = {*View(sources).ordered([*dict.fromkeys(named)])}
+    crates, cases = run_functions(), [case for name, case in CARDS.items() if file_of(name) in COMPLETE]
+    order = {it for case in cases for it in Contract(View(sources, case), crates[case.function], case.function).order}
+    return sorted(name for file, name in order - found if not file.startswith(FRAME)
+                  and not sources.definitions[file, name].kind)
+
+
+def check(report: Report, program: str) -> None:
+    """Makes the cards. The program is not run."""
+    report.check("the constants of the code that contracts name", sorted(constants_named() ^ SIZES))
+    with folder_of({}) as folder:
+        made = run(MAKER, ("--cards", folder), folder)
+        cards = {name: text.decode() for name, text in files_in(folder).items()}
+    wrong = {*map(file_of, CARDS)} ^ {*cards} - {"frame"}
+    report.check("what is computed", not_computed())
+    report.check("the cards", [f"{made}"] * (made.status != 0) + sorted(wrong))
+    for name, card in cards.items():
+        report.check(f"the card of {name}", faults(name, card))
