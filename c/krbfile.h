@@ -1,4 +1,4 @@
-/* Keytabs and credential caches (the FILE type) of MIT Kerberos, in memory: bytes in, bytes out. krbfile(3) says more.
+/* Keytabs and credential caches (the FILE type) of MIT Kerberos, in memory: bytes in, bytes out.
  *
  * If the caller keeps these rules, each call does what it says:
  * - A handle begins as KRBF_NONE. Open and create are given an empty one: KRBF_NONE, or one that they refused or that
@@ -44,7 +44,9 @@ enum {
     KRBF_READ_ONLY = 38,                /* a cache of version 3 */
     KRBF_NOT_FOUND = 39,                /* KRB5_KT_NOTFOUND, KRB5_CC_NOTFOUND */
     KRBF_KVNO_NOT_FOUND = 40,           /* KRB5_KT_KVNONOTFOUND */
-    KRBF_MARKED = 41                    /* a ticket with endtime 0 and the greatest authtime, as removed ones have */
+    KRBF_MARKED = 41,                   /* a ticket with endtime 0 and the greatest authtime, as removed ones have */
+    KRBF_BAD_KEY = 42,                  /* a key of another length than those of its enctype */
+    KRBF_ENCTYPE_NOT_FOUND = 43         /* no entry that fits a ticket in version has its enctype */
 };
 
 /* Bytes where they lie. If there are none, at is NULL. */
@@ -110,7 +112,7 @@ uint32_t krbf_kt_name(krbf_keytab *kt, uint32_t place, char *room, size_t room_l
 uint32_t krbf_kt_component(krbf_keytab *kt, uint32_t place, size_t number, krbf_bytes *component);
 
 /* krb5_kt_add_entry: in the first hole with room, or else at the end. Its name has type 1, NT-PRINCIPAL. What is wrong
- * with the name, KRBF_DAMAGED, KRBF_TOO_LONG, KRBF_FULL. */
+ * with the name, KRBF_BAD_KEY, KRBF_DAMAGED, KRBF_TOO_LONG, KRBF_FULL. */
 uint32_t krbf_kt_add(krbf_keytab *kt, const char *name, size_t name_len, uint32_t timestamp, uint32_t kvno,
                      uint16_t enctype, const uint8_t *key, size_t key_len, uint32_t *place);
 
@@ -120,6 +122,31 @@ uint32_t krbf_kt_remove_at(krbf_keytab *kt, uint32_t place);
 /* The keytab in version 2, without holes. Each cursor goes on before the entry that it stood before.
  * KRBF_NOT_A_PLACE, KRBF_DAMAGED, KRBF_FULL. */
 uint32_t krbf_kt_rewrite(krbf_keytab *kt, uint32_t *cursors, size_t cursors_len);
+
+/* What krbfile ktcheck finds about an entry. */
+enum {
+    KRBF_WEAK = 1,                      /* an enctype that MIT calls weak or deprecated */
+    KRBF_SIZE = 2,                      /* a key that is not as long as its enctype's */
+    KRBF_SAME = 4,                      /* an earlier entry has its name, version, enctype and key */
+    KRBF_CLASH = 8,                     /* an earlier entry has these, but another key */
+    KRBF_OLD = 16,                      /* a newer version of its name is there */
+    KRBF_NOSTRONG = 32,                 /* at the first entry of a name: its newest version has only weak keys */
+    KRBF_HIDDEN = 64                    /* MIT's programs see no entry from this one on */
+};
+
+typedef struct {
+    uint32_t place, findings;
+} krbf_finding;
+
+/* The entries about which something is found, in file order. len is their number; the room has as many as it takes. Of
+ * a damaged keytab, those before its fault. */
+uint32_t krbf_kt_findings(krbf_keytab *kt, krbf_finding *room, size_t room_len, size_t *len);
+
+/* Would a service with this keytab open a ticket of this name, version and enctype? The entry that krbfile ktmatch
+ * names; version 0 is any. By these numbers alone: the key may be another. KRBF_NOT_FOUND, KRBF_KVNO_NOT_FOUND where
+ * no version fits, KRBF_ENCTYPE_NOT_FOUND, and what is wrong with the name. */
+uint32_t krbf_kt_opens(krbf_keytab *kt, const char *name, size_t name_len, uint32_t kvno, int32_t enctype,
+                       krbf_entry *entry);
 
 /* Where what can be read ends, and the kind of what is wrong there: 0 nothing, 1 a length that is cut off, 2 a length
  * beyond the bytes, 3 a record with no entry in it. Always KRBF_DONE. */
@@ -152,6 +179,21 @@ typedef struct {
     uint32_t is_skey;                   /* 0 or 1 */
 } krbf_numbers;
 
+/* A ticket to store. */
+typedef struct {
+    krbf_bytes client, server;          /* as text */
+    krbf_bytes key, ticket, second_ticket;
+    krbf_bytes addresses, authdata;     /* as krbf_cc_addresses and krbf_cc_authdata give them */
+    krbf_numbers numbers;
+} krbf_credential;
+
+/* How a ticket is encrypted. */
+typedef struct {
+    int32_t enctype;
+    uint32_t kvno;                      /* 0 where it has none */
+    uint32_t has_kvno;                  /* 0 or 1 */
+} krbf_encryption;
+
 /* krb5_cc_initialize: an empty cache of version 4 of a default principal. The limit is as of krbf_kt_create. What is
  * wrong with the name, KRBF_FULL, KRBF_TOO_LARGE. */
 uint32_t krbf_cc_create(const char *principal, size_t principal_len, uint32_t limit, krbf_ccache *cc);
@@ -165,6 +207,9 @@ uint32_t krbf_cc_close(krbf_ccache *cc);
 
 /* krb5_cc_get_principal, as text. */
 uint32_t krbf_cc_principal(krbf_ccache *cc, char *room, size_t room_len, size_t *len);
+
+/* The header's time offset. KRBF_NOT_FOUND if there is none. */
+uint32_t krbf_cc_offset(krbf_ccache *cc, int32_t *seconds, int32_t *micros);
 
 /* krb5_cc_start_seq_get: the cursor of a walk that begins. */
 uint32_t krbf_cc_first(krbf_ccache *cc, uint32_t *cursor);
@@ -184,13 +229,39 @@ uint32_t krbf_cc_find(krbf_ccache *cc, const char *server, size_t server_len, kr
 uint32_t krbf_cc_client(krbf_ccache *cc, uint32_t place, char *room, size_t room_len, size_t *len);
 uint32_t krbf_cc_server(krbf_ccache *cc, uint32_t place, char *room, size_t room_len, size_t *len);
 
-/* krb5_cc_store_cred: a ticket without addresses and authorization data, at the end. What is wrong with the names,
- * KRBF_READ_ONLY, KRBF_DAMAGED, KRBF_MARKED, KRBF_FULL; KRBF_TOO_LONG for an enctype above 65,535 or an is_skey
- * above 1. */
+/* How the ticket at a place is encrypted, and the server that it names, as text: by its own bytes (RFC 4120 5.3).
+ * KRBF_NOT_LIVE; KRBF_NOT_FOUND where these are not a ticket in DER, or name no server. */
+uint32_t krbf_cc_ticket_encryption(krbf_ccache *cc, uint32_t place, krbf_encryption *encryption);
+uint32_t krbf_cc_ticket_server(krbf_ccache *cc, uint32_t place, char *room, size_t room_len, size_t *len);
+
+/* The addresses and the authorization data of the ticket at a place, as the file has them after their number: of each
+ * the type in 16 bits, the length in 32, both big-endian, and its bytes. KRBF_NOT_LIVE. */
+uint32_t krbf_cc_addresses(krbf_ccache *cc, uint32_t place, krbf_bytes *addresses);
+uint32_t krbf_cc_authdata(krbf_ccache *cc, uint32_t place, krbf_bytes *authdata);
+
+/* krb5_cc_store_cred: a ticket without addresses and authorization data, at the end. What is wrong with the names;
+ * KRBF_TOO_LONG for an enctype above 65,535 or an is_skey above 1; KRBF_BAD_KEY, KRBF_READ_ONLY, KRBF_DAMAGED,
+ * KRBF_MARKED, KRBF_FULL. */
 uint32_t krbf_cc_store(krbf_ccache *cc, const char *client, size_t client_len, const char *server, size_t server_len,
                        const uint8_t *key, size_t key_len, const uint8_t *ticket, size_t ticket_len,
                        const uint8_t *second_ticket, size_t second_ticket_len, const krbf_numbers *numbers,
                        uint32_t *place);
+
+/* The same with the two lists. KRBF_TOO_LONG, after KRBF_BAD_KEY, where an item of one goes beyond its end. */
+uint32_t krbf_cc_store_with(krbf_ccache *cc, const char *client, size_t client_len, const char *server,
+                            size_t server_len, const uint8_t *key, size_t key_len, const uint8_t *ticket,
+                            size_t ticket_len, const uint8_t *second_ticket, size_t second_ticket_len,
+                            const uint8_t *addresses, size_t addresses_len, const uint8_t *authdata,
+                            size_t authdata_len, const krbf_numbers *numbers, uint32_t *place);
+
+/* The same, of a struct. */
+static inline uint32_t krbf_cc_put(krbf_ccache *cc, const krbf_credential *credential, uint32_t *place) {
+    const krbf_credential *c = credential;
+    return krbf_cc_store_with(cc, (const char *)c->client.at, c->client.len, (const char *)c->server.at,
+                              c->server.len, c->key.at, c->key.len, c->ticket.at, c->ticket.len,
+                              c->second_ticket.at, c->second_ticket.len, c->addresses.at, c->addresses.len,
+                              c->authdata.at, c->authdata.len, &c->numbers, place);
+}
 
 /* krb5_cc_remove_cred, of the ticket at a place: it is marked as removed. KRBF_READ_ONLY, KRBF_DAMAGED,
  * KRBF_NOT_LIVE. */

@@ -62,8 +62,12 @@ static void look_up(void) {
 
 static void store(void) {
     krbf_ticket ticket = ticket_of();
-    CHECK(krbf_cc_store(&cc, GIVEN_TEXT(value_of("client")), GIVEN_TEXT(value_of("server")), GIVEN(ticket.key),
-                        GIVEN(ticket.ticket), GIVEN(ticket.second_ticket), &NUMBERS, &place) == KRBF_DONE);
+    krbf_bytes addresses, authdata;
+    CHECK(krbf_cc_addresses(&cc, ticket.place, &addresses) == KRBF_DONE && addresses.len == sizeof ADDRESSES);
+    CHECK(krbf_cc_authdata(&cc, ticket.place, &authdata) == KRBF_DONE && authdata.len == sizeof AUTHDATA);
+    CHECK(krbf_cc_store_with(&cc, GIVEN_TEXT(value_of("client")), GIVEN_TEXT(value_of("server")), GIVEN(ticket.key),
+                             GIVEN(ticket.ticket), GIVEN(ticket.second_ticket), GIVEN(addresses), GIVEN(authdata),
+                             &NUMBERS, &place) == KRBF_DONE);
 }
 
 /* A value under another key and principal, each of which is a value too. */
@@ -101,8 +105,9 @@ static void make(void) {
     for (size_t at = 0; at < sizeof VALUES / sizeof *VALUES; at++)
         CHECK(krbf_cc_set_config(&cc, TEXT(VALUES[at][0]), TEXT(VALUES[at][1]), (const uint8_t *)TEXT(VALUES[at][2]),
                                  &place) == KRBF_DONE);
-    CHECK(krbf_cc_store(&cc, TEXT("u@R"), TEXT("host/a@R"), KEY, sizeof KEY, ticket, sizeof ticket, second,
-                        sizeof second, &NUMBERS, &place) == KRBF_DONE);
+    CHECK(krbf_cc_store_with(&cc, TEXT("u@R"), TEXT("host/a@R"), KEY, sizeof KEY, ticket, sizeof ticket, second,
+                             sizeof second, ADDRESSES, sizeof ADDRESSES, AUTHDATA, sizeof AUTHDATA, &NUMBERS,
+                             &place) == KRBF_DONE);
     CHECK(krbf_kt_image(&kt, &of_keytab) == KRBF_DONE);
     keytab_len = of_keytab.len;
     len = keep(before);
@@ -129,14 +134,20 @@ static void keytabs(void) {
     CHECK(krbf_kt_open(NULL, 0, 0, 0, &kt) == KRBF_TOO_SHORT && kt.held == NULL);
     CHECK(krbf_kt_close(&kt) == KRBF_DONE && krbf_kt_create(0, &kt) == KRBF_DONE);
     CHECK(krbf_kt_find(&kt, NULL, 0, 0, 0, &entry) == KRBF_NO_REALM);
+    CHECK(krbf_kt_opens(&kt, NULL, 0, 0, 0, &entry) == KRBF_NO_REALM);
+    CHECK(krbf_kt_findings(&kt, NULL, 0, &len) == KRBF_DONE && len == 0);
     CHECK(krbf_kt_add(&kt, NULL, 0, 0, 1, 17, KEY, 16, &place) == KRBF_NO_REALM);
-    CHECK(krbf_kt_add(&kt, TEXT("a@R"), 0, 1, 17, NULL, 0, &place) == KRBF_DONE);
+    CHECK(krbf_kt_add(&kt, TEXT("a@R"), 0, 1, 17, NULL, 0, &place) == KRBF_BAD_KEY);
+    CHECK(krbf_kt_add(&kt, TEXT("a@R"), 0, 1, 99, NULL, 0, &place) == KRBF_DONE);
     CHECK(krbf_kt_entry(&kt, place, &entry) == KRBF_DONE && !entry.key.at && !entry.key.len);
     CHECK(krbf_kt_name(&kt, place, NULL, 0, &len) == KRBF_DONE && len == 3);
     CHECK(krbf_kt_rewrite(&kt, NULL, 0) == KRBF_DONE);
     CHECK(krbf_kt_fault(&kt, &kind, &place) == KRBF_DONE && kind == 0);
     CHECK(krbf_kt_close(&kt) == KRBF_DONE && krbf_kt_close(&kt) == KRBF_DONE);
 }
+
+/* An enctype whose keys have any length. */
+static const krbf_numbers UNKNOWN = {99, 1, 0, 2, 0, 0, 0};
 
 static void caches(void) {
     krbf_ccache cc = KRBF_NONE;
@@ -152,7 +163,8 @@ static void caches(void) {
     CHECK(krbf_cc_find(&cc, NULL, 0, &ticket) == KRBF_NO_REALM);
     CHECK(krbf_cc_store(&cc, NULL, 0, TEXT("a@R"), KEY, 16, KEY, 1, KEY, 1, &NUMBERS, &place) == KRBF_NO_REALM);
     CHECK(krbf_cc_store(&cc, TEXT("u@R"), NULL, 0, KEY, 16, KEY, 1, KEY, 1, &NUMBERS, &place) == KRBF_NO_REALM);
-    CHECK(krbf_cc_store(&cc, TEXT("u@R"), TEXT("a@R"), NULL, 0, NULL, 0, NULL, 0, &NUMBERS, &place) == KRBF_DONE);
+    CHECK(krbf_cc_store(&cc, TEXT("u@R"), TEXT("a@R"), NULL, 0, NULL, 0, NULL, 0, &NUMBERS, &place) == KRBF_BAD_KEY);
+    CHECK(krbf_cc_store(&cc, TEXT("u@R"), TEXT("a@R"), NULL, 0, NULL, 0, NULL, 0, &UNKNOWN, &place) == KRBF_DONE);
     CHECK(krbf_cc_ticket(&cc, place, &ticket) == KRBF_DONE);
     CHECK(!ticket.key.at && !ticket.ticket.at && !ticket.second_ticket.at);
     CHECK(krbf_cc_client(&cc, place, NULL, 0, &len) == KRBF_DONE && len == 3);
@@ -207,9 +219,69 @@ static void ticket_parts(void) {
     krbf_cc_close(&cc);
 }
 
+static int are(krbf_bytes bytes, const uint8_t *due, size_t due_len) {
+    return bytes.len == due_len && !memcmp(bytes.at, due, due_len);
+}
+
+/* A ticket is put with all its parts, and is found with them; a configuration value is no ticket. */
+static void own_parts(void) {
+    krbf_bytes addresses, authdata;
+    krbf_encryption encryption;
+    char text[4] = "";
+    CHECK(krbf_cc_create(TEXT("u@R"), 0, &cc) == KRBF_DONE && krbf_cc_put(&cc, &WHOLE, &place) == KRBF_DONE);
+    CHECK(krbf_cc_ticket_encryption(&cc, place, &encryption) == KRBF_DONE);
+    CHECK(encryption.enctype == 18 && encryption.kvno == 3 && encryption.has_kvno == 1);
+    CHECK(krbf_cc_ticket_server(&cc, place, text, sizeof text, &len) == KRBF_DONE && len == 3 && !strcmp(text, "h@R"));
+    CHECK(krbf_cc_addresses(&cc, place, &addresses) == KRBF_DONE && are(addresses, ADDRESSES, sizeof ADDRESSES));
+    CHECK(krbf_cc_authdata(&cc, place, &authdata) == KRBF_DONE && are(authdata, AUTHDATA, sizeof AUTHDATA));
+    CHECK(krbf_cc_set_config(&cc, TEXT("k"), NULL, 0, (const uint8_t *)TEXT("v"), &place) == KRBF_DONE);
+    CHECK(krbf_cc_ticket_encryption(&cc, place, &encryption) == KRBF_NOT_FOUND && encryption.kvno == 3);
+    CHECK(krbf_cc_ticket_server(&cc, place, text, sizeof text, &len) == KRBF_NOT_FOUND && len == 3);
+    CHECK(krbf_cc_addresses(&cc, place, &addresses) == KRBF_DONE && !addresses.at && !addresses.len);
+    CHECK(krbf_cc_authdata(&cc, 1, &authdata) == KRBF_NOT_LIVE && authdata.len == sizeof AUTHDATA);
+    CHECK(krbf_cc_ticket_server(&cc, 1, text, sizeof text, &len) == KRBF_NOT_LIVE);
+}
+
+/* What refuses a ticket, in order: each is mended before the next. */
+static void refused_parts(void) {
+    krbf_credential ticket = WHOLE;
+    ticket.client.len = ticket.authdata.len = 1;
+    ticket.addresses.len--;
+    ticket.key.len--;
+    ticket.numbers.is_skey = 2;
+    CHECK(krbf_cc_put(&cc, &ticket, &place) == KRBF_NO_REALM);
+    ticket.client = WHOLE.client;
+    CHECK(krbf_cc_put(&cc, &ticket, &place) == KRBF_TOO_LONG);
+    ticket.numbers = WHOLE.numbers;
+    CHECK(krbf_cc_put(&cc, &ticket, &place) == KRBF_BAD_KEY);
+    ticket.key = WHOLE.key;
+    CHECK(krbf_cc_put(&cc, &ticket, &place) == KRBF_TOO_LONG);
+    ticket.addresses = WHOLE.addresses;
+    CHECK(krbf_cc_put(&cc, &ticket, &place) == KRBF_TOO_LONG);
+    ticket.authdata = WHOLE.authdata;
+    CHECK(krbf_cc_put(&cc, &ticket, &place) == KRBF_DONE);
+    krbf_cc_close(&cc);
+}
+
+/* The offset of a header, 5 seconds back and 6 microseconds ahead; a new cache has none. */
+static void offset(void) {
+    static const uint8_t AHEAD[] = {5, 4, 0, 12, 0, 1, 0, 8, 255, 255, 255, 251, 0, 0, 0, 6,
+                                    0, 0, 0, 1, 0, 0, 0, 1, 0, 0, 0, 1, 'R', 0, 0, 0, 1, 'u'};
+    int32_t seconds = 1, micros = 2;
+    CHECK(krbf_cc_create(TEXT("u@R"), 0, &cc) == KRBF_DONE);
+    CHECK(krbf_cc_offset(&cc, &seconds, &micros) == KRBF_NOT_FOUND && seconds == 1 && micros == 2);
+    krbf_cc_close(&cc);
+    CHECK(krbf_cc_open(AHEAD, sizeof AHEAD, 0, &cc) == KRBF_DONE);
+    CHECK(krbf_cc_offset(&cc, &seconds, &micros) == KRBF_DONE && seconds == -5 && micros == 6);
+    krbf_cc_close(&cc);
+}
+
 int main(void) {
     keytabs();
     caches();
+    own_parts();
+    refused_parts();
+    offset();
     entry_parts();
     ticket_parts();
     make();

@@ -16,6 +16,7 @@ void *__wrap_realloc(void *block, size_t size) { return refuses() ? NULL : __rea
 static krbf_keytab kt = KRBF_NONE;
 static krbf_ccache cc = KRBF_NONE;
 static krbf_entry entry;
+static krbf_finding finding;
 static krbf_ticket ticket;
 static uint32_t place;
 static char room[64];
@@ -24,6 +25,8 @@ static size_t len;
 static uint32_t create_kt(void) { return krbf_kt_create(0, &kt); }
 static uint32_t add(void) { return krbf_kt_add(&kt, TEXT("host/a@R"), 0, 3, 17, KEY, sizeof KEY, &place); }
 static uint32_t find(void) { return krbf_kt_find(&kt, TEXT("host/a@R"), 3, 0, &entry); }
+static uint32_t opens(void) { return krbf_kt_opens(&kt, TEXT("host/a@R"), 3, 17, &entry); }
+static uint32_t findings(void) { return krbf_kt_findings(&kt, &finding, 1, &len); }
 static uint32_t name_kt(void) { return krbf_kt_name(&kt, KRBF_FIRST, room, sizeof room, &len); }
 static uint32_t rewrite_kt(void) { return krbf_kt_rewrite(&kt, &place, 0); }
 static uint32_t create_cc(void) { return krbf_cc_create(TEXT("u@R"), 0, &cc); }
@@ -35,13 +38,17 @@ static uint32_t store(void) {
     return krbf_cc_store(&cc, TEXT("u@R"), TEXT("host/a@R"), KEY, sizeof KEY, KEY, 3, KEY, 0, &NUMBERS, &place);
 }
 
+static uint32_t put(void) { return krbf_cc_put(&cc, &WHOLE, &place); }
+static uint32_t own_server(void) { return krbf_cc_ticket_server(&cc, place, room, sizeof room, &len); }
+
 static uint32_t set_config(void) {
     uint32_t set;
     return krbf_cc_set_config(&cc, TEXT("k"), TEXT("b@R"), KEY, 4, &set);
 }
 
-static uint32_t (*const CALLS[])(void) = {create_kt, add,     find,    name_kt, rewrite_kt, create_cc,
-                                          store,     find_cc, server, set_config, rewrite_cc};
+static uint32_t (*const CALLS[])(void) = {create_kt, add,     find,   opens, findings,   name_kt,    rewrite_kt,
+                                          create_cc, store,   find_cc, server, put,      own_server, set_config,
+                                          rewrite_cc};
 
 /* Makes a call with each of its requests refused, until none is. */
 static void sweep(uint32_t (*call)(void)) {

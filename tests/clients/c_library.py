@@ -1,23 +1,23 @@
-"""The C library: its header and manual page name its exports, their parameters and its statuses; C programs over it,
+"""The C library: its headers and manual page name its exports, their parameters and its statuses; C programs over it,
 with refused memory, and a search for keys left in memory."""
 
-import fcntl
+import json
 import os
 import re
 import shutil
-import signal
 import subprocess
-from dataclasses import replace
+from collections import Counter
 
+from keytabs.checks import EACH
 from keytabs.edits import KEY
-from makers.images import HOST, TWO, USUAL, keytab
+from makers.images import TWO, USUAL, keytab
 from makers.samples import SAMPLES
-from pages.documents import literals, read, sources
-from pages.readme import installed, no_library
-from runs.harness import SECONDS, TOP, Outcome, Report, differences, every, files_in, folder_of, message, run
+from names.matches import JUDGED
+from pages.documents import read, sources
+from pages.readme import no_library
+from runs.harness import SECONDS, TOP, Outcome, Report, every, folder_of, printed, run
 from runs.system_calls import Preloaded
 from runs.undisturbed import frame, preload_library, undisturbed
-from system.saving import owned, tree_faults
 
 LIBRARY = os.path.join(TOP, "lib", "libkrbfile.a")
 SHARED = os.path.join(TOP, "lib", "libkrbfile.so.1")
@@ -32,16 +32,22 @@ PROTOTYPE = re.compile(r"^(uint32_t|void) (krbf_\w+)\(([^)]*)\);", re.S | re.M)
 
 # The C form of an export's parameter. An allocator takes no bytes.
 IN_C = {
-    "Global": [], "usize": ["size_t"], **{f"u{bits}": [f"uint{bits}_t"] for bits in (16, 32)},
+    "Global": [], "usize": ["size_t"], "i32": ["int32_t"], "&mut [KrbfFinding]": ["krbf_finding *", "size_t"],
+    **{f"u{bits}": [f"uint{bits}_t"] for bits in (16, 32)},
     "&[u8]": ["const bytes *", "size_t"], "&mut [u8]": ["bytes *", "size_t"], "&mut [u32]": ["uint32_t *", "size_t"],
-    "&mut u32": ["uint32_t *"], "&mut usize": ["size_t *"], "&KrbfNumbers": ["const krbf_numbers *"],
-    **{f"&mut Krbf{name}": [f"krbf_{name.lower()} *"] for name in ("Bytes", "Entry", "Ticket", "Keytab", "Ccache")},
+    "&mut u32": ["uint32_t *"], "&mut i32": ["int32_t *"], "&mut usize": ["size_t *"],
+    "&KrbfNumbers": ["const krbf_numbers *"],
+    **{f"&mut Krbf{name}": [f"krbf_{name.lower()} *"]
+       for name in ("Bytes", "Entry", "Ticket", "Keytab", "Ccache", "Encryption")},
 }
 
 # The sources of refusals, with what a status adds to their numbers.
 REFUSALS = {"krb_keytab/src/open.rt": 10, "krb_ccache/src/open.rt": 10, "krb_wire/src/name_fault.rt": 20,
             "krb_walk/src/refusal.rt": 30}
-STATUSES = {"DONE": 0, "NO_MEMORY": 1, "END": 2, "BAD_DEFAULT_PRINCIPAL": 15}  # statuses that have other names there
+STATUSES = {"DONE": 0, "NO_MEMORY": 1, "END": 2, "BAD_DEFAULT_PRINCIPAL": 15,  # statuses that have other names there
+            "BAD_KEY": 42, "ENCTYPE_NOT_FOUND": 43}
+FINDINGS = {"weak": 1, "size": 2, "same": 4, "clash": 8, "old": 16, "nostrong": 32, "hidden": 64}  # the bits of words
+OPENED = {"opens": 0, "etype": 43, "kvno": 40}  # the statuses of the words of ktmatch
 Signature = tuple[str, tuple[str, ...]]  # a call's return type, and the kinds of its parameters
 
 
@@ -65,10 +71,10 @@ def kind_of(parameter: str) -> str:
     return re.sub(r"(uint8_t|char) \*", "bytes *", kind)
 
 
-def prototypes() -> dict[str, Signature]:
-    """Returns the calls of the header, by name."""
+def prototypes(*headers: str) -> dict[str, Signature]:
+    """Returns the calls of the headers, by name."""
     return {name: (answer, tuple(kind_of(part) for part in parts(words)))
-            for answer, name, words in PROTOTYPE.findall(read("c/krbfile.h"))}
+            for answer, name, words in PROTOTYPE.findall(sources(*headers))}
 
 
 def statuses() -> dict[str, int]:
@@ -83,13 +89,13 @@ def statuses() -> dict[str, int]:
 def check_header(report: Report, _program: str) -> None:
     """Compares the names, parameters and statuses of the header and of the manual page with the sources."""
     numbers = {name: int(number) for name, number in re.findall(r"^ +KRBF_(\w+) = (\d+)", read("c/krbfile.h"), re.M)}
-    due = statuses()
+    due = statuses() | {name.upper(): bit for name, bit in FINDINGS.items()}
     others = [f"{name} is not {number}" for name, number in numbers.items() if due.get(name) != number]
-    report.check("the statuses of krbfile.h", others)
-    declared, there = prototypes(), exports()
+    report.check("the statuses and findings of krbfile.h", others)
+    declared, there, of_all = prototypes("c/krbfile.h"), exports(), prototypes("c/*.h")
     shown = {name: (answer, tuple(kind_of(word) for word in re.findall(r'"([^"]*)"', words)))
              for answer, name, words in SYNOPSIS.findall(read("docs/krbfile.3"))}
-    wrong = sorted(name for name in declared.keys() | shown if declared.get(name) != shown.get(name))
+    wrong = sorted(name for name in of_all.keys() | shown if of_all.get(name) != shown.get(name))
     report.check("the synopsis of krbfile(3)", wrong)
     for name in sorted(declared.keys() | there.keys()):
         got, due = declared.get(name), there.get(name)
@@ -117,8 +123,8 @@ def symbols(path: str, *words: str) -> set[str]:
 
 
 def check_symbols(report: Report, _program: str) -> None:
-    """Checks that both libraries export the calls of the header only, and that the shared one has its name."""
-    wanted = set(prototypes())
+    """Checks that both libraries export the calls of the headers only, and that the shared one has its name."""
+    wanted = set(prototypes("c/*.h"))
     for path, words in ((LIBRARY, ()), (SHARED, ("-D",))):
         report.check(f"symbols of {os.path.basename(path)}", sorted(wanted ^ symbols(path, *words)))
     dynamic = subprocess.run(["readelf", "-d", SHARED], check=True, capture_output=True, text=True)
@@ -135,42 +141,8 @@ PROGRAM_RUNS = (
 )
 
 
-def check_example(report: Report, program: str) -> None:
-    """Checks that the example of krbfile(3) leaves the same keytab as `ktremove`, and prints no part of one."""
-    mixed, source = SAMPLES["mixed.keytab"], literals("docs/krbfile.3")[0]
-    with folder_of({"k": mixed, "filter.c": source.encode()}) as folder:
-        built = build(folder, "filter", sources=folder)
-        got = run(built, (), folder, mixed)
-        run(program, ("ktremove", "-e", "23", "k"), folder)
-        report.compare("the example of krbfile(3)", Outcome(0, files_in(folder)["k"]), got)
-        hole = (-(1 << 24)).to_bytes(4, "big", signed=True) + bytes(1 << 24)
-        for what, image in (("damaged", mixed + b"\x7f"), ("large", TWO + hole)):
-            report.compare(f"the example of krbfile(3), {what}", Outcome(1), run(built, (), folder, image))
-
-
-def check_edit(report: Report, program: str) -> None:
-    """Checks that examples/drop-rc4.c saves a keytab by `krbfile hold`, with its mode, but not while another program has
-    its lock, nor if it is killed between the length and the bytes."""
-    old, new = SAMPLES["mixed.keytab"], keytab(HOST, 41)
-    killed = ("strace", "-o", os.devnull, "-e", "trace=write", "-e", "inject=write:signal=KILL:when=2")
-    rows = [((), fcntl.LOCK_UN, Outcome(0), new), ((), fcntl.LOCK_EX, message(1, "k: cannot write"), old)]
-    rows += [(killed, fcntl.LOCK_UN, replace(message(1, "input is not whole"), status=-signal.SIGKILL), old)]
-    with folder_of({}) as folder, installed(program) as env:
-        built = build(folder, "drop-rc4", sources=os.path.join(TOP, "examples"))
-        for front, lock, wanted, after in rows:
-            with folder_of({"k": old}) as at, open(os.path.join(at, "k"), "rb") as file:
-                os.chmod(file.fileno(), 0o640)
-                fcntl.flock(file, lock)
-                first, *rest = [*front, built, "k"]
-                faults = differences(wanted, run(first, rest, at, env=env))
-                faults += tree_faults({"k": after}, at)
-                faults += [] if owned(os.path.join(at, "k")).mode == 0o640 else ["another mode"]
-            report.check(f"drop-rc4.c ends with {wanted.status}", faults)
-
-
 def check_given(report: Report, folder: str) -> None:
-    """Passes calls no bytes, and bytes inside their own keytab or cache, and refuses each of their allocations in
-    turn."""
+    """Passes calls no bytes, and bytes inside their own store, and refuses each of their allocations in turn."""
     for name, words in (("own_bytes", SANITIZED), ("refused_memory", WRAPS)):
         report.compare(f"C: {name}.c", Outcome(0), run(build(folder, name, *words), (), folder))
     if shutil.which("valgrind") is None:
@@ -178,6 +150,32 @@ def check_given(report: Report, folder: str) -> None:
         return
     words = ("-q", "--error-exitcode=97", "--leak-check=full", build(folder, "own_bytes"))
     report.compare("C: own_bytes.c under valgrind", Outcome(0), run("valgrind", words, folder))
+
+
+def bits_of(program: str, image: bytes) -> list[list[int]]:
+    """Returns the places of entries and the bits of what `ktcheck` finds about them; of a name, at its first entry."""
+    with folder_of({"k": image}) as folder:
+        listed = json.loads(run(program, ("klist", "-k", "--json", "k"), folder).out)["entries"]
+        found = json.loads(run(program, ("ktcheck", "--json", "k"), folder).out)["findings"]
+    first = {each["principal"]: each["place"] for each in reversed(listed) if "principal" in each}
+    bits: Counter[int] = Counter()
+    for each in found:
+        if each["finding"] in FINDINGS:
+            bits[each.get("place") or first[each["principal"]]] += FINDINGS[each["finding"]]
+    return sorted(map(list, bits.items()))
+
+
+def check_judged(report: Report, program: str, folder: str) -> None:
+    """Compares what is found about entries, and which tickets are opened, with rows and with `ktcheck`."""
+    built = build(folder, "judged")
+    report.compare("C: what is found", printed("11 33", "57 16", "102 20", "147 90"), run(built, (), folder, EACH))
+    for image, rows in [(SAMPLES["mixed.keytab"], {}), *JUDGED]:
+        asked = [("host/a@R", str(kvno or 0), str(etype)) for kvno, etype in rows] + [("c@R", "3", "17")]
+        due = [[OPENED[word], int(rest[1]) if word == "opens" else 0] for word, *rest in map(str.split, rows.values())]
+        lines = run(built, [word for row in asked for word in row], folder, image).out.split(b"\n")[:-1]
+        got = [[*map(int, line.split())] for line in lines]
+        wanted = [*bits_of(program, image), *due, [39, 0]]
+        report.check(f"C: tickets of {list(rows)}", [] if got == wanted else [f"{got}, not {wanted}"])
 
 
 def check_keys(report: Report, program: str, folder: str) -> None:
@@ -198,9 +196,8 @@ def check_programs(report: Report, program: str) -> None:
     """Makes the checks by the programs of tests/c, which are built in one folder."""
     with folder_of({}) as folder:
         check_given(report, folder)
+        check_judged(report, program, folder)
         check_keys(report, program, folder)
 
 
-check = every(check_header, every(
-    check_symbols, check_programs, check_example, every(check_edit, of="drop-rc4.c", needs=("strace",)),
-    of="the C library", lack=lack))
+check = every(check_header, every(check_symbols, check_programs, of="the C library", lack=lack))

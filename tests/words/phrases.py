@@ -1,8 +1,5 @@
 """What numbers, findings, failed calls and bad command lines are explained by: the lists of the manual pages and of
-FORMATS, and the phrases that are in no list. All tests compare with them.
-
-A phrase is in lower case, without a full stop, and has at most 72 characters.
-"""
+FORMATS, and phrases that are in no list: in lower case, without a full stop, of at most 72 characters."""
 
 import re
 from functools import partial
@@ -53,10 +50,10 @@ SHORT, LISTED_AS_KEYTAB, BEGINS_AS_CACHE, BEGINS_AS_NO_KEYTAB = NOT_KEYTABS = [
 OTHER_FILES = displayed("In place of the last two of 2 a file that is known by its first bytes is named:")
 
 TOO_LONG = "it is longer than the limit"  # an image, to the library; the program says `file too large`
+BAD_KEY = "the key is not as long as its type's"  # what else the library alone says
 NAMES = {1: "no realm", 2: "a backslash at the end", 3: "a second @", 4: "a / in the realm"}  # why a text is not a name
 
-# Why a call failed: the system's errors by their names, and what krbfile itself finds. And the names that hold has for
-# them.
+# Why a call failed: the system's errors by name, and what krbfile finds; and the names that hold has for them.
 CAUSES, ERRORS = (dict(zip((
     "EACCES", "ENOENT", "no file", "ENOTDIR", "EISDIR", "no plain file", "ELOOP", "bad link", "no name", "ENOSPC",
     "EDQUOT", "EROFS", "EBUSY", "ENAMETOOLONG", "EFBIG", "EIO", "EINTR", "EPIPE", "in use", "changed", "other file",
@@ -72,8 +69,7 @@ LIBRARY_IN_THE_WAY = "the name of its new file is taken"  # the library's phrase
 AFTERMATHS = {"restored": "the old bytes are back", **dict(zip(
     ("damaged", "lost change", "mixed"), re.findall(r"^\.Ar NAME : No (.*)$", PAGE, re.MULTILINE), strict=True))}
 
-# Findings of ktcheck and lines of ktmatch, in the order in which they are explained, and the hints for some findings,
-# in theirs.
+# Findings of ktcheck and lines of ktmatch, as they are explained, and the hints for some findings, in order.
 FINDINGS, MATCHES = ({word: re.search(rf"^\.It Ic {word}\b.*\n(.*):$", PAGE, re.MULTILINE)[1] for word in words}
                      for words in (
     ("weak", "hidden", "same", "clash", "old", "mode", "size", "aged", "missing", "empty", "nostrong", "unwanted"),

@@ -2,7 +2,7 @@
 unfoldable pub use contract.Running.{tables_of}
 pub use Rattle.std.proofs.Common.{◌≡◌, subst, refl, inr, inl, sym, ap, ◌∙◌, ◌+◌, Bool, true, false, cond, List, [], ◌∷◌, ◌++◌, length, drop, arith}
 pub use Rattle.std.proofs.alloc.Calls.{handle_tells, token, Goes-blank}
-pub use Rattle.std.specs.Prelude.{None, Some, Option, find, ◌⊎◌, ◌==◌, Err, IfErr, option_map, IsOk, Result, ℕ, Ok, nat_lt, IfSome, IfOk, OnOk}
+pub use Rattle.std.specs.Prelude.{None, Some, Option, find, map, take, ◌⊎◌, ◌==◌, Err, IfErr, option_map, IsOk, Result, ℕ, Ok, nat_lt, IfSome, IfOk, OnOk}
 pub use Rattle.std_alloc.proofs.BoxSteps.Form.{D, B, box_typed, word, Bx, τ, P, R, args, box_ty}
 pub use Rattle.std_alloc.proofs.BoxSteps.Steps.{box_in, box_out}
 pub use denote.Exit.{yes, no}

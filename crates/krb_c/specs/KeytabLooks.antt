@@ -1,7 +1,9 @@
 -- What the calls that read a keytab return.
-use Rattle.std.specs.Prelude.{◌≡◌, ℕ, Result, Option, Some, None, slice_get, length, List, IfOk}
+use Rattle.std.specs.Prelude.{◌≡◌, ℕ, Bool, true, false, Result, Option, Some, None, slice_get, length, List, IfOk}
 use Rattle.krb_wire.specs.Spelling.{Parts}
 use Rattle.krb_wire.specs.declared.name_fault.NameFault.{NameFault}
+use Rattle.krb_walk.specs.declared.refusal.Code.{Code}
+use Rattle.krb_text.specs.Etype.{is_key_size}
 use Rattle.krb_keytab.specs.Entry.{EntryParts}
 use Rattle.krb_keytab.specs.Store.{KeytabState, entry_at_place}
 use Rattle.krb_keytab.specs.Find.{find_result}
@@ -46,7 +48,12 @@ entry_with timestamp kvno enctype key name = record { principal = name; timestam
 abbrev pub ReadsBack : KeytabState → Result Parts NameFault → (Parts → EntryParts) → ℕ → KeytabState → Type 0
 ReadsBack old named entry place new = IfOk named (λ name. entry_at_place new place ≡ Some (read_back old.format (entry name)))
 
+-- an addition of an entry; 42 if its key has another length than those of its enctype
+abbrev pub AddsSized : Bool → Result (ℕ × KeytabState) Code → KeytabState → ℕ → ℕ → ℕ → KeytabState → Type 0
+AddsSized true given = AddsOr given
+AddsSized false given = Refuses 42
+
 -- an addition of an entry of the name in a text
 abbrev pub AddsNamed : KeytabState → Result Parts NameFault → (Parts → EntryParts) → ℕ → ℕ → ℕ → KeytabState → Type 0
 AddsNamed old named entry status place new_place new =
-    ByName (λ name. AddsOr (put_result old (entry name)) old status place new_place new) (λ why. Refuses why old status place new_place new) named
+    ByName (λ name. AddsSized (is_key_size (entry name).enctype (length (entry name).key)) (put_result old (entry name)) old status place new_place new) (λ why. Refuses why old status place new_place new) named

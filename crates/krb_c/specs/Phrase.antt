@@ -6,6 +6,8 @@ use Rattle.krb_walk.specs.declared.refusal.Code.TheVariants as code
 use Rattle.krb_walk.specs.Phrases.{code_phrase}
 use Rattle.krb_ccache.specs.declared.open.CcOpenFault.TheVariants as opening
 use Rattle.krb_ccache.specs.Open.{open_fault_phrase}
+use Rattle.krb_findings.specs.Table.{row_of}
+use Rattle.krb_findings.specs.declared.finding.Finding.TheVariants.{Etype}
 
 -- the phrase of a status, if it has one: that of its code or its fault, or its own; keytabs and caches differ in that of a bad version
 abbrev pub phrase_of : ℕ → Option (List ℕ)
@@ -21,4 +23,5 @@ phrase_of n =
     else if n == 35 then Some (code_phrase code.NotLive) else if n == 36 then Some (code_phrase code.NoSuchWalk)
     else if n == 37 then Some (code_phrase code.TooManyWalks) else if n == 38 then Some (code_phrase code.ReadOnly)
     else if n == 39 then Some (code_phrase code.NotFound) else if n == 40 then Some (code_phrase code.KvnoNotFound)
-    else if n == 41 then Some (code_phrase code.Marked) else None
+    else if n == 41 then Some (code_phrase code.Marked) else if n == 42 then Some (codes "the key is not as long as its type's")
+    else if n == 43 then Some (row_of Etype).phrase else None

@@ -50,17 +50,21 @@ abbrev pub FindsNamed : {Record Shown : Type 0} → (Shown → ℕ → Record �
 FindsNamed Shows found named status seen new_seen =
     ByName (λ name. FindsOne Shows (found name) status seen new_seen) (λ why. (status ≡ why) × (new_seen ≡ seen)) named
 
--- a buffer with as much of a text at its front as fits
-abbrev pub in_room : List ℕ → List ℕ → List ℕ
-in_room room text = take (length room) text ++ drop (length text) room
+-- a buffer with as much of a list at its front as fits
+abbrev pub in_room : {X : Type 0} → List X → List X → List X
+in_room room items = take (length room) items ++ drop (length items) room
 
--- a text was copied into a buffer, and its length reported; or it is out of memory, and nothing was written
-abbrev pub CopiesText : List ℕ → ℕ → List ℕ → List ℕ → ℕ → ℕ → Type 0
-CopiesText text status room new_room len new_len =
-    ((status ≡ 0) × (new_room ≡ in_room room text) × (new_len ≡ length text))
+-- a list was copied into a buffer, and its length reported; or it is out of memory, and nothing was written
+abbrev pub Copies : {X : Type 0} → List X → ℕ → List X → List X → ℕ → ℕ → Type 0
+Copies items status room new_room len new_len =
+    ((status ≡ 0) × (new_room ≡ in_room room items) × (new_len ≡ length items))
     ⊎ ((status ≡ 1) × (new_room ≡ room) × (new_len ≡ len))
+
+-- a text is reported, or this status if there is none
+abbrev pub CopiesTextOr : ℕ → Option (List ℕ) → ℕ → List ℕ → List ℕ → ℕ → ℕ → Type 0
+CopiesTextOr none (Some text) status room new_room len new_len = Copies text status room new_room len new_len
+CopiesTextOr none None status room new_room len new_len = (status ≡ none) × (new_room ≡ room) × (new_len ≡ len)
 
 -- the text of a name of the record at a place is reported; 35 if there is no record
 abbrev pub CopiesTextAt : Option (List ℕ) → ℕ → List ℕ → List ℕ → ℕ → ℕ → Type 0
-CopiesTextAt (Some text) status room new_room len new_len = CopiesText text status room new_room len new_len
-CopiesTextAt None status room new_room len new_len = (status ≡ 35) × (new_room ≡ room) × (new_len ≡ len)
+CopiesTextAt = CopiesTextOr 35

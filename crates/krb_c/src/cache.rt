@@ -2,8 +2,10 @@
 
 mod calls;
 mod changes;
+mod lists;
 mod looks;
 mod opening;
+mod own;
 
 ghost use Rattle.std.specs.Prelude.{◌≡◌};
 ghost use Rattle.krb_ccache.specs.Store.{credential_at_place};

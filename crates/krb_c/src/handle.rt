@@ -139,6 +139,17 @@ macro_rules! with_held {
     }};
 }
 
+/// Does this with the record at a place, if there is one.
+macro_rules! if_live {
+    ($found:expr, $record:ident => $call:expr) => {
+        match $found {
+            Some($record) => $call,
+            None => crate::status::of_code(krb_walk::Code::NotLive),
+        }
+    };
+}
+
+pub(crate) use if_live;
 pub(crate) use with_held;
 
 // What it owns is in the heap, and any thread may free it.

@@ -2,7 +2,9 @@
 
 mod calls;
 mod changes;
+mod findings;
 mod looks;
+mod opener;
 mod opening;
 
 use crate::heap::Heap;

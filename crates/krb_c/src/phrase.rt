@@ -1,6 +1,5 @@
 //! The phrase of a status.
 
-ghost use Rattle.std.specs.Prelude.{◌≡◌};
 ghost use Rattle.krb_wire.specs.Reading.{Gives};
 ghost use Rattle.krb_c.specs.Phrase.{phrase_of};
 ghost use Rattle.krb_c.specs.Text.{ShowsBytes};
@@ -8,6 +7,7 @@ ghost use Rattle.krb_c.specs.Text.{ShowsBytes};
 use crate::status::{DONE, of_code};
 use crate::text::{KrbfBytes, bytes_of};
 use krb_ccache::CcOpenFault;
+use krb_findings::Finding;
 use krb_walk::Code;
 use krb_wire::NameFault;
 
@@ -39,11 +39,12 @@ fn phrase_of(status: u32) -> Option<&'static str>
         39 => Some(Code::NotFound.phrase()),
         40 => Some(Code::KvnoNotFound.phrase()),
         41 => Some(Code::Marked.phrase()),
+        42 => Some("the key is not as long as its type's"),
+        43 => Some(Finding::Etype.row().phrase),
         _ => None,
     }
 }
 
-/// Shows the phrase of a status: what it means, in words.
 #[unsafe(no_mangle)]
 pub extern "C" fn krbf_phrase(status: u32, phrase: &mut KrbfBytes) -> u32
     ensures { ShowsBytes (phrase_of status) result phrase.old phrase.new }

@@ -20,6 +20,12 @@ pub const AT_END: u32 = 2;
 /// An image is longer than the limit, or the limit is not valid.
 pub const TOO_LARGE: u32 = 13;
 
+/// A key has another length than those of its enctype.
+pub const BAD_KEY: u32 = 42;
+
+/// No entry that fits a ticket in version has its enctype.
+pub const ENCTYPE_NOT_FOUND: u32 = 43;
+
 /// Returns the status for an image that is not a keytab.
 pub fn of_kt_open(why: KtOpenFault) -> u32
     ensures is { result ≡ kt_open_status why }

@@ -1,14 +1,15 @@
 //! Bytes that C reads in place, and names as text: parsing those from C, and writing those into a buffer of C.
 
-ghost use Rattle.std.specs.Prelude.{◌≡◌, ◌<◌, Ok, None, IfOk, IfErr};
+ghost use Rattle.std.specs.Prelude.{◌≡◌, ◌<◌, Ok, None, IfOk, IfErr, option_copied};
 ghost use Rattle.krb_wire.specs.Reading.{principal_parts};
 ghost use Rattle.krb_wire.specs.NameOf.{name_of};
 ghost use Rattle.krb_wire.specs.Names.{name_text};
-ghost use Rattle.krb_c.specs.Text.{CopiesText, in_room, IsUnread, AreShown};
+ghost use Rattle.krb_c.specs.Text.{Copies, in_room, IsUnread, AreShown, ShowsBytes};
 
 use crate::heap::{Heap, heap};
-use crate::status::{DONE, NO_MEMORY, of_name};
-use krb_wire::{Name, NoMemory, Principal, parse_name, write_name};
+use crate::status::{DONE, NO_MEMORY, of_code, of_name};
+use krb_walk::Code;
+use krb_wire::{Name, Principal, parse_name, write_name};
 use std::alloc::Global;
 use std::ptr;
 
@@ -48,31 +49,34 @@ pub fn read_name(alloc: Global, text: &[u8]) -> Result<Principal<Heap>, u32>
     }
 }
 
-// Returns the text of a name.
-fn text_of<N: Name>(alloc: Global, name: &N) -> Result<Vec<u8, Heap>, NoMemory>
-    ensures { IfOk result (λ text. text.items ≡ name_text (N.parts name.now)) }
+/// Shows the bytes of a name or a number, or returns that there are none.
+pub fn show(bytes: Option<&[u8]>, shown: &mut KrbfBytes) -> u32
+    ensures { ShowsBytes (option_copied bytes.entry) result shown.old shown.new }
 {
-    let mut text = Vec::new(heap(alloc));
-    write_name(name, &mut text)?;
-    Ok(text)
+    let Some(bytes) = bytes else {
+        return of_code(Code::NotFound);
+    };
+    *shown = bytes_of(bytes);
+    DONE
 }
 
-// Copies as much of a text as fits into the buffer `room`.
-fn put_text(room: &mut [u8], text: &[u8])
-    ensures { room.new ≡ in_room room.old text.now }
+/// Copies as many of the items as fit into the buffer `room`.
+pub fn put_items<T: Copy>(room: &mut [T], items: &[T])
+    ensures { room.new ≡ in_room room.old items.now }
 {
-    let len = text.len().min(room.len());
-    room[..len].copy_from_slice(&text[..len]);
+    let len = items.len().min(room.len());
+    room[..len].copy_from_slice(&items[..len]);
 }
 
 /// Copies as much of a name's text as fits into the buffer `room`, and reports the length of the whole text.
 pub fn copy_name<N: Name>(alloc: Global, name: &N, room: &mut [u8], len: &mut usize) -> u32
-    ensures { CopiesText (name_text (N.parts name.now)) result room.old room.new len.old len.new }
+    ensures { Copies (name_text (N.parts name.now)) result room.old room.new len.old len.new }
 {
-    let Ok(text) = text_of(alloc, name) else {
+    let mut text = Vec::new(heap(alloc));
+    let Ok(()) = write_name(name, &mut text) else {
         return NO_MEMORY;
     };
-    put_text(room, &text);
+    put_items(room, &text);
     *len = text.len();
     DONE
 }

@@ -1,6 +1,6 @@
 //! The functions of the static library over a cache: first those that read it, then those that change it.
 
-ghost use Rattle.std.specs.Prelude.{◌≡◌, ◌<◌, None, IsSome, map, option_map};
+ghost use Rattle.std.specs.Prelude.{◌≡◌, ◌<◌, [], None, IsSome, map, option_map};
 ghost use Rattle.krb_wire.specs.Names.{name_text};
 ghost use Rattle.krb_wire.specs.NameOf.{name_of};
 ghost use Rattle.krb_walk.specs.Store.{end_of, fault_of};
@@ -11,21 +11,20 @@ ghost use Rattle.krb_ccache.specs.Changes.{cut_result};
 ghost use Rattle.krb_ccache.specs.SetConfig.{set_config_result};
 ghost use Rattle.krb_ccache.specs.Rewrite.{rewrite_result};
 ghost use Rattle.krb_c.specs.Held.{cache_of, Looks, Over};
-ghost use Rattle.krb_c.specs.Text.{CopiesText, CopiesTextAt, AreShown, LooksAt, ShowsBytes};
+ghost use Rattle.krb_c.specs.Text.{Copies, CopiesTextAt, AreShown, LooksAt, ShowsBytes};
 ghost use Rattle.krb_c.specs.CacheLooks.{Finds, text_or_none, Shows};
 ghost use Rattle.krb_c.specs.Walks.{StepsOver, with_cursors};
 ghost use Rattle.krb_c.specs.Status.{kind_number, Adds, Changes, Rewrites};
 ghost use Rattle.krb_c.specs.CacheStore.{Stores, new_credential_of};
 
 use crate::cache::changes::{KrbfNumbers, NewCredential, store};
-use crate::cache::looks::{KrbfTicket, config, copy_client_at, copy_server_at, find, look_at};
-use crate::handle::{KrbfCcache, with_held};
+use crate::cache::looks::{KrbfTicket, find, shown, some_text};
+use crate::handle::{KrbfCcache, if_live, with_held};
 use crate::status::{DONE, kind_of};
-use crate::text::{KrbfBytes, bytes_of, copy_name};
+use crate::text::{KrbfBytes, bytes_of, copy_name, show};
 use krb_walk::Placed;
 use std::alloc::Global;
 
-/// Copies the default principal's text into the buffer `room`, as much as fits, and reports the length of the text.
 #[unsafe(no_mangle)]
 pub extern "C" fn krbf_cc_principal(
     alloc: Global,
@@ -34,12 +33,11 @@ pub extern "C" fn krbf_cc_principal(
     len: &mut usize,
 ) -> u32
     requires { IsSome (cache_of cc.old) }
-    ensures copies { Looks (cache_of cc.old) (cache_of cc.new) (λ k. CopiesText (name_text k.principal) result room.old room.new len.old len.new) }
+    ensures copies { Looks (cache_of cc.old) (cache_of cc.new) (λ k. Copies (name_text k.principal) result room.old room.new len.old len.new) }
 {
     with_held!(cc, alloc, held => copy_name(alloc, &held.cache().store().default_principal(), room, len))
 }
 
-/// Reports the place of the first credential, where a walk starts.
 #[unsafe(no_mangle)]
 pub extern "C" fn krbf_cc_first(alloc: Global, cc: &mut KrbfCcache, cursor: &mut u32) -> u32
     requires { IsSome (cache_of cc.old) }
@@ -52,7 +50,6 @@ pub extern "C" fn krbf_cc_first(alloc: Global, cc: &mut KrbfCcache, cursor: &mut
     })
 }
 
-/// Shows the first live credential at or after the cursor, and moves the cursor past it.
 #[unsafe(no_mangle)]
 pub extern "C" fn krbf_cc_next(
     alloc: Global,
@@ -67,7 +64,6 @@ pub extern "C" fn krbf_cc_next(
     with_held!(cc, alloc, held => held.cache().step(cursor, ticket))
 }
 
-/// Shows the live credential at `place`.
 #[unsafe(no_mangle)]
 pub extern "C" fn krbf_cc_ticket(
     alloc: Global,
@@ -78,10 +74,12 @@ pub extern "C" fn krbf_cc_ticket(
     requires { IsSome (cache_of cc.old) }
     ensures looks { Looks (cache_of cc.old) (cache_of cc.new) (λ k. LooksAt Shows (credential_at_place k place) place result ticket.old ticket.new) }
 {
-    with_held!(cc, alloc, held => look_at(held.cache(), place, ticket))
+    with_held!(cc, alloc, held => if_live!(held.cache().cred_at(place), credential => {
+        *ticket = shown(place, &credential);
+        DONE
+    }))
 }
 
-/// Copies the text of the client of the credential at `place` into `room`, as much as fits, and reports its length.
 #[unsafe(no_mangle)]
 pub extern "C" fn krbf_cc_client(
     alloc: Global,
@@ -94,10 +92,11 @@ pub extern "C" fn krbf_cc_client(
     ensures copies { Looks (cache_of cc.old) (cache_of cc.new) (λ k. CopiesTextAt (option_map (λ c. name_text c.client) (credential_at_place k place))
         result room.old room.new len.old len.new) }
 {
-    with_held!(cc, alloc, held => copy_client_at(alloc, held.cache(), place, room, len))
+    with_held!(cc, alloc, held => if_live!(held.cache().cred_at(place), credential => {
+        copy_name(alloc, credential.client(), room, len)
+    }))
 }
 
-/// Copies the text of the server of the credential at `place` into `room`, as much as fits, and reports its length.
 #[unsafe(no_mangle)]
 pub extern "C" fn krbf_cc_server(
     alloc: Global,
@@ -110,11 +109,11 @@ pub extern "C" fn krbf_cc_server(
     ensures copies { Looks (cache_of cc.old) (cache_of cc.new) (λ k. CopiesTextAt (option_map (λ c. name_text c.server) (credential_at_place k place))
         result room.old room.new len.old len.new) }
 {
-    with_held!(cc, alloc, held => copy_server_at(alloc, held.cache(), place, room, len))
+    with_held!(cc, alloc, held => if_live!(held.cache().cred_at(place), credential => {
+        copy_name(alloc, credential.server(), room, len)
+    }))
 }
 
-/// Shows the first live ticket for the server that a text names. Skips configuration entries. In a damaged cache, looks
-/// at the credentials before its fault.
 #[unsafe(no_mangle)]
 pub extern "C" fn krbf_cc_find(
     alloc: Global,
@@ -128,7 +127,6 @@ pub extern "C" fn krbf_cc_find(
     with_held!(cc, alloc, held => find(alloc, held.cache().store(), server, ticket))
 }
 
-/// Reports the number of the fault where the sound credentials end, 0 if there is none, and where they end.
 #[unsafe(no_mangle)]
 pub extern "C" fn krbf_cc_fault(
     alloc: Global,
@@ -148,8 +146,6 @@ pub extern "C" fn krbf_cc_fault(
     })
 }
 
-/// Shows the value of the default principal's configuration entry for a key and a principal's text, or for the key
-/// alone if that text is empty.
 #[unsafe(no_mangle)]
 pub extern "C" fn krbf_cc_config(
     alloc: Global,
@@ -161,10 +157,9 @@ pub extern "C" fn krbf_cc_config(
     requires { IsSome (cache_of cc.old) }
     ensures value { Looks (cache_of cc.old) (cache_of cc.new) (λ k. ShowsBytes (config_of k key.now (text_or_none principal.now)) result value.old value.new) }
 {
-    with_held!(cc, alloc, held => config(held.cache().store(), key, principal, value))
+    with_held!(cc, alloc, held => show(held.cache().store().config(key, some_text(principal)), value))
 }
 
-/// Shows the image, which is there until the cache is changed or closed.
 #[unsafe(no_mangle)]
 pub extern "C" fn krbf_cc_image(alloc: Global, cc: &mut KrbfCcache, image: &mut KrbfBytes) -> u32
     requires { IsSome (cache_of cc.old) }
@@ -177,8 +172,39 @@ pub extern "C" fn krbf_cc_image(alloc: Global, cc: &mut KrbfCcache, image: &mut 
     })
 }
 
-/// Adds a credential of a client and a server after the last, without addresses and authorization data, and reports its
-/// place. Refused, in this order: a text that is not a name, numbers that do not fit, what `Ccache::store` refuses.
+#[unsafe(no_mangle)]
+pub extern "C" fn krbf_cc_store_with(
+    alloc: Global,
+    cc: &mut KrbfCcache,
+    client: &[u8],
+    server: &[u8],
+    key: &[u8],
+    ticket: &[u8],
+    second_ticket: &[u8],
+    addresses: &[u8],
+    authdata: &[u8],
+    numbers: &KrbfNumbers,
+    place: &mut u32,
+) -> u32
+    requires { IsSome (cache_of cc.old) }
+    ensures { Over (cache_of cc.old) (cache_of cc.new)
+        (λ old new. Stores (new_credential_of client.now server.now key.now ticket.now second_ticket.now
+        addresses.now authdata.now numbers.now)
+        old result place.old place.new new) }
+{
+    let new_credential = NewCredential {
+        client,
+        server,
+        key,
+        ticket,
+        second_ticket,
+        addresses,
+        authdata,
+        numbers: *numbers,
+    };
+    with_held!(cc, alloc, held => store(alloc, held.cache(), &new_credential, place))
+}
+
 #[unsafe(no_mangle)]
 pub extern "C" fn krbf_cc_store(
     alloc: Global,
@@ -193,7 +219,7 @@ pub extern "C" fn krbf_cc_store(
 ) -> u32
     requires { IsSome (cache_of cc.old) }
     ensures { Over (cache_of cc.old) (cache_of cc.new)
-        (λ old new. Stores (new_credential_of client.now server.now key.now ticket.now second_ticket.now numbers.now)
+        (λ old new. Stores (new_credential_of client.now server.now key.now ticket.now second_ticket.now [] [] numbers.now)
         old result place.old place.new new) }
 {
     let new_credential = NewCredential {
@@ -202,12 +228,13 @@ pub extern "C" fn krbf_cc_store(
         key,
         ticket,
         second_ticket,
+        addresses: &[],
+        authdata: &[],
         numbers: *numbers,
     };
     with_held!(cc, alloc, held => store(alloc, held.cache(), &new_credential, place))
 }
 
-/// Marks the credential at `place` as removed.
 #[unsafe(no_mangle)]
 pub extern "C" fn krbf_cc_remove_at(alloc: Global, cc: &mut KrbfCcache, place: u32) -> u32
     requires { IsSome (cache_of cc.old) }
@@ -216,8 +243,6 @@ pub extern "C" fn krbf_cc_remove_at(alloc: Global, cc: &mut KrbfCcache, place: u
     with_held!(cc, alloc, held => held.cache().remove(place))
 }
 
-/// Sets the value of the default principal's configuration entry for a key and a principal's text, or for the key alone
-/// if that text is empty, and reports the place of the entry.
 #[unsafe(no_mangle)]
 pub extern "C" fn krbf_cc_set_config(
     alloc: Global,
@@ -235,7 +260,6 @@ pub extern "C" fn krbf_cc_set_config(
     with_held!(cc, alloc, held => held.cache().set_config(alloc, key, principal, value, place))
 }
 
-/// Rewrites the live credentials in version 4, in order, and moves each cursor along. Each cursor has to be a place.
 #[unsafe(no_mangle)]
 pub extern "C" fn krbf_cc_rewrite(alloc: Global, cc: &mut KrbfCcache, cursors: &mut [u32]) -> u32
     requires { IsSome (cache_of cc.old) }

@@ -8,9 +8,11 @@ ghost use Rattle.krb_c.specs.CacheStore.{Stores, with_parts, numbers_fit};
 ghost use Rattle.krb_c.specs.Status.{Adds};
 
 use crate::cache::HeldCache;
+use crate::cache::lists::copied_items;
 use crate::cache::looks::some_text;
-use crate::heap::{Heap, copied, heap};
-use crate::status::{DONE, NO_MEMORY, of_code, of_refusal};
+use crate::heap::{Heap, copied};
+use crate::key::may_be;
+use crate::status::{BAD_KEY, DONE, NO_MEMORY, of_code, of_refusal};
 use crate::text::read_name;
 use crate::walked::Walked;
 use krb_ccache::{Ccache, Cred};
@@ -41,7 +43,8 @@ impl KrbfNumbers {
     }
 }
 
-/// The parts of a credential to store: the texts of its names, its key, its tickets and its numbers.
+/// The parts of a credential to store: the texts of its names, its key, its tickets, its addresses and authorization
+/// data, and its numbers.
 #[derive(Drop)]
 pub struct NewCredential<'a> {
     pub client: &'a [u8],
@@ -49,6 +52,8 @@ pub struct NewCredential<'a> {
     pub key: &'a [u8],
     pub ticket: &'a [u8],
     pub second_ticket: &'a [u8],
+    pub addresses: &'a [u8],
+    pub authdata: &'a [u8],
     pub numbers: KrbfNumbers,
 }
 
@@ -63,6 +68,8 @@ impl<'a> Model for NewCredential<'a> {
       key = a.key.now;
       ticket = a.ticket.now;
       second_ticket = a.second_ticket.now;
+      addresses = a.addresses.now;
+      authdata = a.authdata.now;
       numbers = a.numbers;
     } };
 }
@@ -82,6 +89,11 @@ impl<'a> NewCredential<'a> {
         if !numbers.fit() {
             return Err(of_code(Code::TooLong));
         }
+        if !may_be(numbers.enctype as u16, self.key) {
+            return Err(BAD_KEY);
+        }
+        let addresses = copied_items(alloc, self.addresses)?;
+        let authdata = copied_items(alloc, self.authdata)?;
         let key = copied(alloc, self.key)?;
         let ticket = copied(alloc, self.ticket)?;
         let second_ticket = copied(alloc, self.second_ticket)?;
@@ -96,8 +108,8 @@ impl<'a> NewCredential<'a> {
             renew_till: numbers.renew_till,
             is_skey: numbers.is_skey as u8,
             flags: numbers.flags,
-            addresses: Vec::new(heap(alloc)),
-            authdata: Vec::new(heap(alloc)),
+            addresses,
+            authdata,
             ticket,
             second_ticket,
         })
@@ -158,13 +170,11 @@ impl Walked<Ccache<Heap>> {
         ensures { Adds (set_config_result self.old.state key.now (text_or_none principal.now) value.now)
             self.old.state result place.old place.new self.new.state }
     {
-        let Ok(key) = copied(alloc, key) else {
-            return NO_MEMORY;
-        };
-        let Ok(principal) = copied(alloc, principal) else {
-            return NO_MEMORY;
-        };
-        let Ok(value) = copied(alloc, value) else {
+        let (Ok(key), Ok(principal), Ok(value)) = (
+            copied(alloc, key),
+            copied(alloc, principal),
+            copied(alloc, value),
+        ) else {
             return NO_MEMORY;
         };
         self.set(&key, &principal, &value, place)

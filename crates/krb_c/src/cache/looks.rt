@@ -1,19 +1,15 @@
 //! Credentials as C sees them, and reading a cache for C.
 
-ghost use Rattle.std.specs.Prelude.{◌≡◌, None, option_copied, option_map, ok_or, Some, IsSome};
+ghost use Rattle.std.specs.Prelude.{◌≡◌, None, option_copied, Some, IsSome};
 ghost use Rattle.krb_wire.specs.Reading.{principal_parts};
 ghost use Rattle.krb_wire.specs.NameOf.{name_of};
-ghost use Rattle.krb_wire.specs.Names.{name_text};
 ghost use Rattle.krb_walk.specs.Store.{live_bytes};
 ghost use Rattle.krb_ccache.specs.Store.{credential_at_place, store_of};
-ghost use Rattle.krb_ccache.specs.Config.{config_of};
-ghost use Rattle.krb_c.specs.CacheLooks.{Finds, ticket_for, is_ticket_for, text_or_none, Shows};
-ghost use Rattle.krb_c.specs.Text.{FindsOne, LooksAt, ShowsBytes, CopiesTextAt};
+ghost use Rattle.krb_c.specs.CacheLooks.{Finds, ticket_for, text_or_none, Shows};
 
-use crate::cache::HeldCache;
 use crate::heap::Heap;
 use crate::status::{DONE, of_code};
-use crate::text::{KrbfBytes, bytes_of, copy_name, read_name};
+use crate::text::{KrbfBytes, bytes_of, read_name};
 use crate::walked::Records;
 use krb_ccache::{Ccache, CredView, is_config, read_credential};
 use krb_walk::{Code, Placed};
@@ -88,45 +84,16 @@ impl Records for Ccache<Heap> {
     }
 }
 
-/// Shows the live credential at `place`.
-pub fn look_at(held: &HeldCache, place: u32, ticket: &mut KrbfTicket) -> u32
-    ensures { LooksAt Shows (credential_at_place held.now.state place) place result ticket.old ticket.new }
-{
-    let Some(credential) = held.cred_at(place) else {
-        return of_code(Code::NotLive);
-    };
-    *ticket = shown(place, &credential);
-    DONE
-}
-
-// True if a credential is a ticket for this server, not a configuration entry.
-fn is_for(server: &Principal<Heap>, credential: &CredView<'_>) -> bool
-    ensures { result ≡ is_ticket_for (principal_parts server.now) credential.now }
-{
-    !is_config(credential) && same_name(server, credential.server())
-}
-
 // Returns the first live ticket for a server, with its place, or `None`.
 fn first_for<'a>(cache: &'a Ccache<Heap>, server: &Principal<Heap>) -> Option<(u32, CredView<'a>)>
     ensures { result ≡ ticket_for cache.now.state (principal_parts server.now) }
 {
     for (place, credential) in cache.credentials() {
-        if is_for(server, &credential) {
+        if !is_config(&credential) && same_name(server, credential.server()) {
             return Some((place, credential));
         }
     }
     None
-}
-
-// Shows the first live ticket for a server.
-fn show_first(cache: &Ccache<Heap>, server: &Principal<Heap>, ticket: &mut KrbfTicket) -> u32
-    ensures { FindsOne Shows (ok_or (ticket_for cache.now.state (principal_parts server.now)) Code.NotFound) result ticket.old ticket.new }
-{
-    let Some((place, credential)) = first_for(cache, server) else {
-        return of_code(Code::NotFound);
-    };
-    *ticket = shown(place, &credential);
-    DONE
 }
 
 /// Shows the first live ticket for the server that a text names.
@@ -134,10 +101,15 @@ fn show_first(cache: &Ccache<Heap>, server: &Principal<Heap>, ticket: &mut KrbfT
 pub fn find(alloc: Global, cache: &Ccache<Heap>, server: &[u8], ticket: &mut KrbfTicket) -> u32
     ensures { Finds cache.now.state (name_of server.now None) result ticket.old ticket.new }
 {
-    match read_name(alloc, server) {
-        Ok(name) => show_first(cache, &name, ticket),
-        Err(status) => status,
-    }
+    let name = match read_name(alloc, server) {
+        Ok(name) => name,
+        Err(status) => return status,
+    };
+    let Some((place, credential)) = first_for(cache, &name) else {
+        return of_code(Code::NotFound);
+    };
+    *ticket = shown(place, &credential);
+    DONE
 }
 
 /// Returns the text, or `None` if it is empty.
@@ -148,49 +120,4 @@ pub fn some_text(text: &[u8]) -> Option<&[u8]>
         return None;
     }
     Some(text)
-}
-
-/// Shows a configuration value.
-pub fn config(cache: &Ccache<Heap>, key: &[u8], principal: &[u8], value: &mut KrbfBytes) -> u32
-    ensures { ShowsBytes (config_of cache.now.state key.now (text_or_none principal.now)) result value.old value.new }
-{
-    let Some(bytes) = cache.config(key, some_text(principal)) else {
-        return of_code(Code::NotFound);
-    };
-    *value = bytes_of(bytes);
-    DONE
-}
-
-/// Copies the text of the client of the credential at `place` into `room`, as much as fits, and reports its length.
-pub fn copy_client_at(
-    alloc: Global,
-    held: &HeldCache,
-    place: u32,
-    room: &mut [u8],
-    len: &mut usize,
-) -> u32
-    ensures { CopiesTextAt (option_map (λ c. name_text c.client) (credential_at_place held.now.state place))
-        result room.old room.new len.old len.new }
-{
-    let Some(credential) = held.cred_at(place) else {
-        return of_code(Code::NotLive);
-    };
-    copy_name(alloc, credential.client(), room, len)
-}
-
-/// Copies the text of the server of the credential at `place` into `room`, as much as fits, and reports its length.
-pub fn copy_server_at(
-    alloc: Global,
-    held: &HeldCache,
-    place: u32,
-    room: &mut [u8],
-    len: &mut usize,
-) -> u32
-    ensures { CopiesTextAt (option_map (λ c. name_text c.server) (credential_at_place held.now.state place))
-        result room.old room.new len.old len.new }
-{
-    let Some(credential) = held.cred_at(place) else {
-        return of_code(Code::NotLive);
-    };
-    copy_name(alloc, credential.server(), room, len)
 }

@@ -44,8 +44,6 @@ fn look_at_front(image: &[u8], limits: Limits) -> Result<(), CcOpenFault>
     Ok(())
 }
 
-/// Opens the cache of a copy of an image. The limit is the greatest length of its image: 0 means 16,777,216. An image
-/// that is refused by its length or its version is refused before it is copied.
 #[unsafe(no_mangle)]
 pub extern "C" fn krbf_cc_open(alloc: Global, image: &[u8], limit: u32, cc: &mut KrbfCcache) -> u32
     requires { cc.old.held ≡ None }
@@ -67,7 +65,6 @@ pub extern "C" fn krbf_cc_open(alloc: Global, image: &[u8], limit: u32, cc: &mut
     }
 }
 
-/// Creates a cache of version 4 without credentials, with the default principal that a text names.
 #[unsafe(no_mangle)]
 #[tactic(auto, using(crate::proofs::NameLemmas::unread))]
 pub extern "C" fn krbf_cc_create(
@@ -92,7 +89,6 @@ pub extern "C" fn krbf_cc_create(
     }
 }
 
-/// Frees a cache, and leaves its handle empty. An empty one stays so.
 #[unsafe(no_mangle)]
 pub extern "C" fn krbf_cc_close(alloc: Global, cc: &mut KrbfCcache) -> u32
     ensures done { result ≡ 0 }

@@ -14,15 +14,15 @@ ghost use Rattle.krb_c.specs.Walks.{StepsOver, with_cursors};
 ghost use Rattle.krb_c.specs.Text.{AreShown, LooksAt, CopiesTextAt};
 ghost use Rattle.krb_c.specs.Status.{kind_number, Changes, Rewrites};
 
-use crate::handle::{KrbfKeytab, with_held};
+use crate::handle::{KrbfKeytab, if_live, with_held};
 use crate::keytab::changes::{Numbers, add};
-use crate::keytab::looks::{KrbfEntry, copy_name_at, find, look_at, show_component};
+use crate::keytab::looks::{KrbfEntry, find, shown};
 use crate::status::{DONE, kind_of};
-use crate::text::{KrbfBytes, bytes_of};
+use crate::text::{KrbfBytes, bytes_of, copy_name, show};
 use krb_walk::Placed;
+use krb_wire::Name;
 use std::alloc::Global;
 
-/// Shows the first entry at or after the cursor, and moves the cursor past it. A walk starts at 2.
 #[unsafe(no_mangle)]
 pub extern "C" fn krbf_kt_next(
     alloc: Global,
@@ -37,7 +37,6 @@ pub extern "C" fn krbf_kt_next(
     with_held!(kt, alloc, held => held.keytab().step(cursor, entry))
 }
 
-/// Shows the entry at `place`.
 #[unsafe(no_mangle)]
 pub extern "C" fn krbf_kt_entry(
     alloc: Global,
@@ -48,10 +47,12 @@ pub extern "C" fn krbf_kt_entry(
     requires { IsSome (keytab_of kt.old) }
     ensures looks { Looks (keytab_of kt.old) (keytab_of kt.new) (λ k. LooksAt Shows (entry_at_place k place) place result entry.old entry.new) }
 {
-    with_held!(kt, alloc, held => look_at(held.keytab(), place, entry))
+    with_held!(kt, alloc, held => if_live!(held.keytab().store().entry_at(place), there => {
+        *entry = shown(place, &there);
+        DONE
+    }))
 }
 
-/// Reports the number of the fault where the sound cells end, 0 if there is none, and where they end.
 #[unsafe(no_mangle)]
 pub extern "C" fn krbf_kt_fault(
     alloc: Global,
@@ -71,7 +72,6 @@ pub extern "C" fn krbf_kt_fault(
     })
 }
 
-/// Shows the first entry of a name, kvno (0: the highest) and enctype (0: any).
 #[unsafe(no_mangle)]
 pub extern "C" fn krbf_kt_find(
     alloc: Global,
@@ -87,7 +87,6 @@ pub extern "C" fn krbf_kt_find(
     with_held!(kt, alloc, held => find(alloc, held.keytab(), name, kvno, enctype, entry))
 }
 
-/// Copies the text of the name of the entry at `place` into `room`, as much as fits, and reports its length.
 #[unsafe(no_mangle)]
 pub extern "C" fn krbf_kt_name(
     alloc: Global,
@@ -99,10 +98,11 @@ pub extern "C" fn krbf_kt_name(
     requires { IsSome (keytab_of kt.old) }
     ensures copies { Looks (keytab_of kt.old) (keytab_of kt.new) (λ k. CopiesTextAt (option_map (λ e. name_text e.principal) (entry_at_place k place)) result room.old room.new len.old len.new) }
 {
-    with_held!(kt, alloc, held => copy_name_at(alloc, held.keytab(), place, room, len))
+    with_held!(kt, alloc, held => if_live!(held.keytab().store().entry_at(place), entry => {
+        copy_name(alloc, entry.principal(), room, len)
+    }))
 }
 
-/// Shows component `number`, from 0 on, of the name of the entry at `place`.
 #[unsafe(no_mangle)]
 pub extern "C" fn krbf_kt_component(
     alloc: Global,
@@ -114,10 +114,11 @@ pub extern "C" fn krbf_kt_component(
     requires { IsSome (keytab_of kt.old) }
     ensures shows { Looks (keytab_of kt.old) (keytab_of kt.new) (λ k. ShowsPart (entry_at_place k place) number result component.old component.new) }
 {
-    with_held!(kt, alloc, held => show_component(held.keytab(), place, number, component))
+    with_held!(kt, alloc, held => if_live!(held.keytab().store().entry_at(place), entry => {
+        show(entry.principal().component(number), component)
+    }))
 }
 
-/// Shows the image, which is there until the keytab is changed or closed.
 #[unsafe(no_mangle)]
 pub extern "C" fn krbf_kt_image(alloc: Global, kt: &mut KrbfKeytab, image: &mut KrbfBytes) -> u32
     requires { IsSome (keytab_of kt.old) }
@@ -130,7 +131,6 @@ pub extern "C" fn krbf_kt_image(alloc: Global, kt: &mut KrbfKeytab, image: &mut 
     })
 }
 
-/// Adds an entry whose name has type 1, and reports the place of its record.
 #[unsafe(no_mangle)]
 pub extern "C" fn krbf_kt_add(
     alloc: Global,
@@ -156,7 +156,6 @@ pub extern "C" fn krbf_kt_add(
     with_held!(kt, alloc, held => add(alloc, held.keytab(), name, numbers, key, place))
 }
 
-/// Removes the record at `place`: it becomes a hole of zeros.
 #[unsafe(no_mangle)]
 pub extern "C" fn krbf_kt_remove_at(alloc: Global, kt: &mut KrbfKeytab, place: u32) -> u32
     requires { IsSome (keytab_of kt.old) }
@@ -165,7 +164,6 @@ pub extern "C" fn krbf_kt_remove_at(alloc: Global, kt: &mut KrbfKeytab, place: u
     with_held!(kt, alloc, held => held.keytab().remove(place))
 }
 
-/// Rewrites the keytab in version 2, without holes, and moves each cursor to its record's new place.
 #[unsafe(no_mangle)]
 pub extern "C" fn krbf_kt_rewrite(alloc: Global, kt: &mut KrbfKeytab, cursors: &mut [u32]) -> u32
     requires { IsSome (keytab_of kt.old) }

@@ -4,9 +4,10 @@ ghost use Rattle.std.specs.Prelude.{◌≡◌, None};
 ghost use Rattle.krb_wire.specs.NameOf.{name_of};
 ghost use Rattle.krb_c.specs.KeytabLooks.{AddsNamed, ReadsBack, entry_with};
 
-use crate::heap::{Heap, heap};
+use crate::heap::heap;
+use crate::key::may_be;
 use crate::keytab::HeldKeytab;
-use crate::status::NO_MEMORY;
+use crate::status::{BAD_KEY, NO_MEMORY};
 use crate::text::read_name;
 use krb_keytab::NewEntry;
 use std::alloc::Global;
@@ -19,7 +20,8 @@ pub struct Numbers {
     pub enctype: u16,
 }
 
-/// Adds an entry of the name in a text, and reports its place.
+/// Adds an entry of the name in a text, and reports its place. Refused, in this order: a text that is not a name, a key
+/// of another length than those of its enctype, what `Keytab::add` refuses.
 #[tactic(auto, using(crate::proofs::NameLemmas::unread))]
 pub fn add(
     alloc: Global,
@@ -38,6 +40,9 @@ pub fn add(
         Ok(name) => name,
         Err(status) => return status,
     };
+    if !may_be(numbers.enctype, key) {
+        return BAD_KEY;
+    }
     let Ok(key) = Vec::from_slice(heap(alloc), key) else {
         return NO_MEMORY;
     };

@@ -1,19 +1,16 @@
 //! Entries as C sees them, and reading a keytab for C.
 
-ghost use Rattle.std.specs.Prelude.{None, option_map};
+ghost use Rattle.std.specs.Prelude.{None};
 ghost use Rattle.krb_wire.specs.NameOf.{name_of};
-ghost use Rattle.krb_wire.specs.Names.{name_text};
 ghost use Rattle.krb_keytab.specs.Store.{entry_at_place};
-ghost use Rattle.krb_c.specs.KeytabLooks.{Shows, Finds, ShowsPart};
-ghost use Rattle.krb_c.specs.Text.{LooksAt, CopiesTextAt};
+ghost use Rattle.krb_c.specs.KeytabLooks.{Shows, Finds};
 
 use crate::heap::Heap;
 use crate::keytab::HeldKeytab;
 use crate::status::{DONE, of_code};
-use crate::text::{KrbfBytes, bytes_of, copy_name, read_name};
+use crate::text::{KrbfBytes, bytes_of, read_name};
 use crate::walked::Records;
 use krb_keytab::{EntryView, Indexed, read_entry};
-use krb_walk::Code;
 use krb_wire::Name;
 use std::alloc::Global;
 
@@ -69,17 +66,6 @@ impl Records for Indexed<Heap> {
     }
 }
 
-/// Shows the entry at `place`.
-pub fn look_at(held: &HeldKeytab, place: u32, entry: &mut KrbfEntry) -> u32
-    ensures { LooksAt Shows (entry_at_place held.now.state place) place result entry.old entry.new }
-{
-    let Some(seen) = held.store().entry_at(place) else {
-        return of_code(Code::NotLive);
-    };
-    *entry = shown(place, &seen);
-    DONE
-}
-
 /// Shows the first entry of the name in a text, with this kvno and enctype.
 #[tactic(auto, using(crate::proofs::NameLemmas::unread))]
 pub fn find(
@@ -103,39 +89,4 @@ pub fn find(
         }
         Err(code) => of_code(code),
     }
-}
-
-/// Copies the text of the name of the entry at `place` into `room`, as much as fits, and reports its length.
-pub fn copy_name_at(
-    alloc: Global,
-    held: &HeldKeytab,
-    place: u32,
-    room: &mut [u8],
-    len: &mut usize,
-) -> u32
-    ensures { CopiesTextAt (option_map (λ e. name_text e.principal) (entry_at_place held.now.state place)) result room.old room.new len.old len.new }
-{
-    match held.store().entry_at(place) {
-        Some(entry) => copy_name(alloc, entry.principal(), room, len),
-        None => of_code(Code::NotLive),
-    }
-}
-
-/// Shows component `number` of the name of the entry at `place`.
-pub fn show_component(
-    held: &HeldKeytab,
-    place: u32,
-    number: usize,
-    component: &mut KrbfBytes,
-) -> u32
-    ensures { ShowsPart (entry_at_place held.now.state place) number result component.old component.new }
-{
-    let Some(entry) = held.store().entry_at(place) else {
-        return of_code(Code::NotLive);
-    };
-    let Some(bytes) = entry.principal().component(number) else {
-        return of_code(Code::NotFound);
-    };
-    *component = bytes_of(bytes);
-    DONE
 }

@@ -64,7 +64,6 @@ fn fill(alloc: Global, keytab: Keytab<Heap>, kt: &mut KrbfKeytab) -> u32
     }
 }
 
-/// Creates a keytab of version 2 without entries. The limit is the greatest length of its image: 0 means 16,777,216.
 #[unsafe(no_mangle)]
 pub extern "C" fn krbf_kt_create(alloc: Global, limit: u32, kt: &mut KrbfKeytab) -> u32
     requires { kt.old.held ≡ None }
@@ -79,8 +78,6 @@ pub extern "C" fn krbf_kt_create(alloc: Global, limit: u32, kt: &mut KrbfKeytab)
     }
 }
 
-/// Opens the keytab of a copy of an image, with such a limit. An image that is not a keytab is refused before it is
-/// copied, so that `NO_MEMORY` is returned for a keytab only.
 #[unsafe(no_mangle)]
 pub extern "C" fn krbf_kt_open(
     alloc: Global,
@@ -109,7 +106,6 @@ pub extern "C" fn krbf_kt_open(
     }
 }
 
-/// Frees a keytab, and leaves its handle empty. An empty one stays so.
 #[unsafe(no_mangle)]
 pub extern "C" fn krbf_kt_close(alloc: Global, kt: &mut KrbfKeytab) -> u32
     ensures done { result ≡ 0 }
