@@ -2,7 +2,7 @@
 # make check      runs the tests over such a program: minutes, for who changes a line
 # make            proves the program and builds bin/krbfile
 # make static     builds bin/krbfile-static, which needs no C library where it runs and starts sooner
-# make lib        proves and builds the C library, lib/libkrbfile.a and lib/libkrbfile.so.1, which c/krbfile.h declares
+# make lib        proves and builds the C library, lib/libkrbfile.a and lib/libkrbfile.so.1, which c/*.h declare
 # make cards      writes a card of each kind of command line, as klist -k, with what its contract says, to bin/cards/
 # make samples    makes the files that README works on, in samples/
 # make test       proves every crate from nothing, runs all tests, those of the program that this built too, and tries
@@ -14,7 +14,7 @@
 # make dist       packs the static program, the libraries, samples, examples and documents into
 #                 DIST/krbfile-VERSION-linux-x86_64.tar.gz; the same files give the same bytes, of SOURCE_DATE_EPOCH
 # make deb        packs what is built as Debian packages, in DIST
-# make wheel      packs Python's module, in DIST; it takes python3-build and setuptools, and no network
+# make wheel      packs Python's module and the C library, in DIST; it takes python3-build and setuptools, no network
 # make clean      removes what is built here, but nothing that is proved
 #
 # CC, CFLAGS, LDFLAGS and PYTHON are heard.
@@ -42,6 +42,7 @@ STATIC = bin/krbfile-static
 ARCHIVE = crates/krb_c/out/libkrb_c.a
 LIBRARY = lib/libkrbfile.a
 SHARED = lib/libkrbfile.so.1
+HEADERS = c/krbfile.h c/krbfile_files.h
 KIT = $(dir $(shell rt doc))
 SOURCES = crates.txt $(shell find crates/*/src crates/*/specs crates/*/proofs -type f)
 VERSION := $(shell sed -n 's/^const VERSION: &str = "\([^ "]*\).*/\1/p' crates/krb_command_line/src/command_lines.rt)
@@ -55,8 +56,8 @@ EXAMPLES = $(wildcard examples/*)
 # The pages that README names, and the calls that the library's manual page names.
 LINKED := CONTRIBUTING.md $(filter-out docs/%,$(shell grep -o '[a-z]*/[a-zA-Z_/]*\.md' README.md))
 CALLS := $(sort $(shell sed -n 's/^\.Fn \(krbf_[a-z_]*\).*/\1/p' docs/krbfile.3))
-PAGES = $(DOCUMENTS) $(wildcard docs/*) $(EXAMPLES) $(MODULE) $(LINKED) completions/generate c/krbfile.h c/krbfile.pc.in \
-	python/pyproject.toml.in tests/selftest
+PAGES = $(DOCUMENTS) $(wildcard docs/*) $(EXAMPLES) $(MODULE) $(LINKED) completions/generate $(HEADERS) \
+	c/krbfile.pc.in python/pyproject.toml.in tests/selftest
 
 .PHONY: all try check static lib cards samples test long-test install install-program install-lib install-python \
 	uninstall dist deb wheel clean
@@ -91,13 +92,18 @@ lib/krbfile.o: $(ARCHIVE)
 	objcopy --wildcard --keep-global-symbol='krbf_*' $@
 	rm -r lib/parts
 
-$(LIBRARY): lib/krbfile.o
-	rm -f $@
-	$(AR) rcs $@ lib/krbfile.o
+# The calls that hold files by the program.
+lib/krbfile_files.o: c/krbfile_files.c $(HEADERS)
+	mkdir -p lib
+	$(CC) -std=c11 -O2 $(CFLAGS) -fPIC -c -o $@ $<
 
-$(SHARED): lib/krbfile.o c/krbfile.map
+$(LIBRARY): lib/krbfile.o lib/krbfile_files.o
+	rm -f $@
+	$(AR) rcs $@ $^
+
+$(SHARED): lib/krbfile.o lib/krbfile_files.o c/krbfile.map
 	$(CC) $(CFLAGS) -shared $(HARDENED) -Wl,-z,defs -Wl,-soname,libkrbfile.so.1 -Wl,--version-script,c/krbfile.map \
-		$(LDFLAGS) -o $@ lib/krbfile.o
+		$(LDFLAGS) -o $@ $(filter %.o,$^)
 
 try:
 	$(need_rt)
@@ -116,7 +122,7 @@ lib: $(LIBRARY) $(SHARED)
 	ln -sf $(notdir $(SHARED)) lib/libkrbfile.so
 
 cards:
-	tests/definitions --cards bin/cards
+	tests/definitions bin/cards
 
 samples:
 	tests/samples samples
@@ -159,7 +165,7 @@ install-program:
 
 install-lib:
 	$(call need,$(SHARED),lib)
-	install -D -m 644 -t $(DESTDIR)$(INCLUDEDIR) c/krbfile.h
+	install -D -m 644 -t $(DESTDIR)$(INCLUDEDIR) $(HEADERS)
 	install -D -m 644 -t $(DESTDIR)$(LIBDIR) $(LIBRARY)
 	install -D -m 755 -t $(DESTDIR)$(LIBDIR) $(SHARED)
 	ln -sf libkrbfile.so.1 $(DESTDIR)$(LIBDIR)/libkrbfile.so
@@ -175,7 +181,7 @@ install-python:
 install: install-program install-lib install-python
 
 uninstall:
-	for path in $(BINDIR)/krbfile $(INCLUDEDIR)/krbfile.h $(LIBDIR)/libkrbfile.a $(LIBDIR)/libkrbfile.so \
+	for path in $(BINDIR)/krbfile $(HEADERS:c/%=$(INCLUDEDIR)/%) $(LIBDIR)/libkrbfile.a $(LIBDIR)/libkrbfile.so \
 		$(LIBDIR)/libkrbfile.so.1 $(LIBDIR)/pkgconfig/krbfile.pc $(MANDIR)/man1/krbfile.1 $(MANDIR)/man5/krbfile.5 \
 		$(patsubst %,$(MANDIR)/man3/%.3,krbfile $(CALLS)) $(DATADIR)/bash-completion/completions/krbfile \
 		$(DATADIR)/zsh/site-functions/_krbfile $(DATADIR)/fish/vendor_completions.d/krbfile.fish $(DOCDIR) \
@@ -214,11 +220,14 @@ deb:
 	packaging/deb $(VERSION) $(DIST)
 
 wheel:
+	$(call need,$(SHARED),lib)
 	rm -rf $(PARTS)
 	$(call put_project,$(PARTS))
+	install -m 644 $(SHARED) $(PARTS)/krbfile
+	printf '[bdist_wheel]\nplat_name = linux_x86_64\n' > $(PARTS)/setup.cfg
 	$(PYTHON) -m build --wheel --no-isolation --outdir $(DIST) $(PARTS)
 	rm -r $(PARTS)
 
 clean:
-	rm -rf bin lib samples $(PARTS) $(PACKED) $(DIST)/krbfile-$(VERSION)-py3-none-any.whl
+	rm -rf bin lib samples $(PARTS) $(PACKED) $(DIST)/krbfile-$(VERSION)-py3-none-linux_x86_64.whl
 	rm -f $(foreach name,krbfile libkrbfile1 libkrbfile-dev python3-krbfile,$(wildcard $(DIST)/$(name)_$(VERSION)*.deb))
