@@ -63,8 +63,8 @@ class Hold:
     def begin(self) -> bytes:
         """Starts the program, and returns the image of the file."""
         # In a session of its own Ctrl-C does not reach it.
-        self.process = subprocess.Popen(self.words, stdin=self.theirs, stdout=self.theirs, stderr=self.messages,
-                                        start_new_session=True)
+        end = self.theirs.fileno()
+        self.process = subprocess.Popen(self.words, stdin=end, stdout=end, stderr=self.messages, start_new_session=True)
         self.theirs.close()
         length = self._line()
         if not length.isdigit():
@@ -129,12 +129,12 @@ class Hold:
     def forget(self) -> None:
         """Closes what this process has of it."""
         _holds.discard(self)
-        for each in (self.ours, self.theirs, self.messages):
-            each.close()
+        for each in (self.ours.close, self.theirs.close, self.messages.close):
+            each()
 
 
 _holds: WeakSet[Hold] = WeakSet()  # the holds that something else still has; a forked child closes its copies
-os.register_at_fork(after_in_child=lambda: [hold.forget() for hold in [*_holds]])
+os.register_at_fork(after_in_child=lambda: [*map(Hold.forget, [*_holds])])
 
 
 @contextmanager

@@ -2,24 +2,43 @@
 from __future__ import annotations
 
 import ctypes
-from ctypes import byref, c_char_p, c_size_t, c_uint16, c_uint32, c_void_p
+import os
+from collections.abc import Callable, Sequence
+from ctypes import byref, c_char_p, c_int32, c_size_t, c_uint16, c_uint32, c_void_p
+from datetime import datetime, timezone
 from operator import index
-from typing import Any, NamedTuple, Union
+from struct import pack, unpack_from
+from typing import Any, NamedTuple, TypeVar, Union
 
-from krbfile.origin import beside
+import krbfile
+from krbfile.origin import MODULE, beside
 
-DONE, END, BAD_VERSION, NOT_FOUND, KVNO_NOT_FOUND = 0, 2, 12, 39, 40
+DONE, END, BAD_VERSION = 0, 2, 12
+NOT_THERE = (39, 40, 43)  # no such name, no such version, and no such encryption type
 
 Name = Union[bytes, str]
 Enctype = Union[int, str]  # an encryption type, by its number or its name
+Parts = Sequence[tuple[int, bytes]]  # addresses or authorization data, each with its type
+Number = TypeVar("Number", bound="ctypes._SimpleCData[int]")
+Found = TypeVar("Found")
 
 LIBRARY = "libkrbfile.so.1"
+OWN = os.path.join(MODULE, LIBRARY)  # the library of a wheel
 
 # A call keeps the interpreter's lock: releasing it would take longer than most calls.
 try:
-    exports = ctypes.PyDLL(beside("lib", LIBRARY) or LIBRARY)
+    exports = ctypes.PyDLL(OWN if os.path.exists(OWN) else beside("lib", LIBRARY) or LIBRARY)
 except OSError as error:
     raise OSError(f"{error}; install libkrbfile, or set LD_LIBRARY_PATH to its folder") from None
+
+
+def export(name: str) -> Any:
+    """Returns a call of the library, which may be older than the module."""
+    try:
+        return getattr(exports, name)
+    except AttributeError:
+        why = f"{exports._name} has no {name}: install libkrbfile {krbfile.__version__}, or a later one"
+        raise NotImplementedError(why) from None
 
 
 class KrbfileError(Exception):
@@ -32,7 +51,7 @@ class KrbfileError(Exception):
         self.status = status
 
     def __str__(self) -> str:
-        return self.args[1]
+        return str(self.args[1])
 
 
 class NotFound(KrbfileError, LookupError):
@@ -59,7 +78,6 @@ ETYPES = {name: Etype(which, key_length) for which, key_length, names in (
     (25, 16, "camellia128-cts-cmac camellia128 camellia128-cts"),
     (26, 32, "camellia256-cts-cmac camellia256 camellia256-cts"),
 ) for name in names.split()}
-KEY_LENGTHS = dict(ETYPES.values())
 
 
 class EntryRecord(ctypes.Structure):
@@ -83,20 +101,37 @@ class TicketRecord(ctypes.Structure):
     ]
 
 
-def check(status: int) -> None:
-    """Raises `KrbfileError` unless the status is `KRBF_DONE`."""
-    if status in (NOT_FOUND, KVNO_NOT_FOUND):
-        raise NotFound(status)
+class EncryptionRecord(ctypes.Structure):
+    _fields_ = [("enctype", c_int32), ("kvno", c_uint32), ("has_kvno", c_uint32)]
+
+
+def check(status: int) -> bool:
+    """Returns that the status is `KRBF_DONE`, or raises `KrbfileError`."""
     if status != DONE:
-        raise KrbfileError(status)
+        raise (NotFound if status in NOT_THERE else KrbfileError)(status)
+    return True
 
 
-def number(kind: Any, value: int) -> Any:
+def found(call: Callable[..., Found], *words: Any) -> Found | None:
+    """Returns what a call returns, or None if there is none."""
+    try:
+        return call(*words)
+    except NotFound:
+        return None
+
+
+def in_utc(seconds: int) -> datetime | None:
+    """Returns seconds since 1970 as a time in UTC, or None for 0."""
+    return datetime.fromtimestamp(seconds, timezone.utc) if seconds else None
+
+
+def number(kind: type[Number], value: int) -> Number:
     """Returns a number as a C parameter, or raises `OverflowError` if it does not fit."""
     value = index(value)
-    if not 0 <= value < 1 << 8 * ctypes.sizeof(kind):
+    made = kind(value)
+    if made.value != value:
         raise OverflowError(f"{value} does not fit {8 * ctypes.sizeof(kind)} bits")
-    return kind(value)
+    return made
 
 
 def etype_of(given: Enctype) -> c_uint16:
@@ -123,3 +158,19 @@ def text(name: bytes) -> str:
 def named(name: Name) -> tuple[c_char_p, c_size_t]:
     """Returns a name, given as bytes or text, as a pointer and a length."""
     return sized(name.encode("utf-8", "surrogateescape") if isinstance(name, str) else name)
+
+
+def parted(data: bytes) -> Parts:
+    """Returns addresses or authorization data, given the bytes that the library has for them."""
+    parts, at = [], 0
+    while at < len(data):
+        kind, length = unpack_from(">HL", data, at)
+        at += 6 + length
+        parts.append((kind, data[at - length:at]))
+    return tuple(parts)
+
+
+def joined(parts: Parts) -> tuple[c_char_p, c_size_t]:
+    """Returns addresses or authorization data as a pointer and a length."""
+    pairs = [(number(c_uint16, kind), memoryview(data).tobytes()) for kind, data in parts]
+    return sized(b"".join(pack(">HL", kind.value, len(data)) + data for kind, data in pairs))

@@ -20,15 +20,14 @@ LINKED = (BUILT[0], BUILT[2])  # what is linked here
 
 # What is installed, but for the pages of calls, the examples and Python's module: into folders that are all given.
 FOLDERS = {name: f"/{name}" for name in ("BINDIR", "LIBDIR", "INCLUDEDIR", "MANDIR", "DATADIR", "DOCDIR", "PYTHONDIR")}
-INSTALLED = """BINDIR/krbfile INCLUDEDIR/krbfile.h LIBDIR/libkrbfile.a LIBDIR/libkrbfile.so.1 LIBDIR/libkrbfile.so
-    LIBDIR/pkgconfig/krbfile.pc DATADIR/bash-completion/completions/krbfile DOCDIR/README.md DOCDIR/examples/list.c
-    DATADIR/fish/vendor_completions.d/krbfile.fish DATADIR/zsh/site-functions/_krbfile MANDIR/man1/krbfile.1
-    MANDIR/man3/krbfile.3 MANDIR/man3/krbf_kt_open.3 MANDIR/man5/krbfile.5 PYTHONDIR/krbfile/py.typed"""
+INSTALLED = """BINDIR/krbfile INCLUDEDIR/krbfile.h INCLUDEDIR/krbfile_files.h LIBDIR/libkrbfile.a LIBDIR/libkrbfile.so.1
+    LIBDIR/libkrbfile.so LIBDIR/pkgconfig/krbfile.pc DATADIR/bash-completion/completions/krbfile DOCDIR/README.md
+    DOCDIR/examples/list.c DATADIR/fish/vendor_completions.d/krbfile.fish DATADIR/zsh/site-functions/_krbfile
+    MANDIR/man1/krbfile.1 MANDIR/man3/krbfile.3 MANDIR/man3/krbf_kt_open.3 MANDIR/man5/krbfile.5 PYTHONDIR/krbfile/py.typed"""
 
 EPOCH = 1_700_000_000  # the time that a packager gives
 STATIC = os.path.join(TOP, BUILT[0])
 
-# A listing by the static program, and a missing file, in a root of that and a keytab.
 ROWS = {("klist", "-kt", "/k"): Outcome(0, sample("t").replace(b"FILE:k\n", b"FILE:/k\n")),
         ("klist", "-k", "/x"): message(1, "/x: no such file")}
 
@@ -113,7 +112,7 @@ def check_debian(report: Report, program: str) -> None:
 
 
 def check_wheel(report: Report, _program: str) -> None:
-    """Builds the wheel."""
+    """Builds the wheel, whose module finds the library that is in it."""
     with folder_of({}) as folder:
         report.check("make wheel", made(f"DIST={folder}", "PYTHON=/usr/bin/python3", "wheel"))
         for name in os.listdir(folder):
@@ -121,6 +120,9 @@ def check_wheel(report: Report, _program: str) -> None:
                 text = b"".join(map(wheel.read, (it for it in wheel.namelist() if it.endswith("/METADATA"))))
                 has_all = "krbfile/py.typed" in wheel.namelist() and b"\n# krbfile" in text
                 report.check("its parts", [] if has_all else [f"{wheel.namelist()}"])
+                wheel.extractall(folder)
+        found = "from krbfile.library import exports as it; import os; print(os.path.relpath(it._name))"
+        report.compare("its library", Outcome(0, b"krbfile/libkrbfile.so.1\n"), run("python3", ("-c", found), folder))
 
 
 def check_hardened(report: Report, _program: str) -> None:

@@ -13,7 +13,6 @@ from pages.documents import read
 from pages.readme import installed
 from runs.harness import TOP, Outcome, Report, files_in, folder_of, message, run
 
-# The files of jobs, each with a line that it prints.
 FOUND = b"".join(b"./mixed.keytab: " + line for line in (
     b"weak 53 kvno 3 etype 23 b@R\n", b"nostrong kvno 3 b@R\n", b"entries 2 free 0 holes 0\n"))
 JOBS = {"keytabs.cron": FOUND, "keytabs.service": FOUND, "keytabs.yml":

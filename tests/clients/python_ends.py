@@ -58,8 +58,7 @@ for handler in (signal.SIG_DFL, signal.SIG_IGN, reap, None):
             print(handler, found, wanted)
 """
 
-# A stand-in that holds the file until it says that it has ended, and saves a word if it is given anything. Python
-# itself passes over what is raised in `__del__`.
+# A stand-in that holds the file until it says that it has ended, and saves a word if it is given anything.
 LINES = r"""
 Path("p").write_text('''#!/bin/sh
 trap "" PIPE
@@ -132,7 +131,6 @@ krbfile.editing.subprocess.Popen = Late
 print(raised_by(block), stays_held())
 """
 
-# A process that ends within a block, and whose child goes on.
 CHILDREN = """
 from ctypes import PyDLL
 

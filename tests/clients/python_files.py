@@ -6,7 +6,6 @@ from makers.images import PA_TYPE, TICKET, TWO, cache
 from peers.corpus import FOLDER, files
 from words.phrases import BEGINS_AS_CACHE, BEGINS_AS_KEYTAB, CAUSES, LARGE, NOT_READ, SHORT
 
-# What is read, and what is refused, in the words of the program.
 LOADS = """
 Path("k").write_bytes(image)
 Path("short").write_bytes(b"5")
@@ -27,10 +26,10 @@ for load, *paths in ((Keytab.load, "none", "", "FILE:", b"folder", "k/none", "ci
 print(sorted(os.listdir()))
 """
 
-# The files of other programs: how many there are, and those where a walk gives other entries or tickets than klist
-# prints, or ends elsewhere.
+# How many files of other programs there are, and those where a walk is not what klist prints.
 WALKS = f"FOLDER = {FOLDER!r}" + """
 import json, subprocess
+from datetime import timedelta
 
 def printed(it):
     if isinstance(it, Entry):
@@ -39,8 +38,9 @@ def printed(it):
     if it.is_config:
         return {"place": it.place, "value": it.ticket.decode()}
     names = ("place", "client", "server", "authtime", "starttime", "endtime", "renew_till", "is_skey")
+    own = {"ticket_etype": it.ticket_enctype, "ticket_kvno": it.ticket_kvno, "ticket_server": it.ticket_server}
     return {**{name: getattr(it, name) for name in names}, "flags_value": it.flags, "etype": it.enctype,
-            "ticket_length": len(it.ticket)}
+            "ticket_length": len(it.ticket), "addresses": len(it.addresses), **own}
 
 def is_listed(store, line):
     if isinstance(store, str) or not line:
@@ -49,8 +49,10 @@ def is_listed(store, line):
     rows = [row for name in ("entries", "config", "tickets") for row in listed.get(name, [])]
     is_cut = raised_by(lambda: walked.extend(map(printed, store))) is not None
     fault = listed["fault"] and (listed["fault"]["kind"], listed["fault"]["place"])
-    return (len(walked), store.fault, is_cut) == (len(rows), fault, fault is not None) and all(
-        mine.items() <= row.items() for mine, row in zip(walked, sorted(rows, key=lambda row: row["place"])))
+    offset = listed.get("offset") and timedelta(**listed["offset"])
+    return (len(walked), len(store), store.fault, is_cut, getattr(store, "offset", None)) == (
+        len(rows), len(rows), fault, fault is not None, offset) and all(
+            mine.items() <= row.items() for mine, row in zip(walked, sorted(rows, key=lambda row: row["place"])))
 
 for kind, folder, option in ((Keytab, "keytab", "-kK"), (Cache, "ccache", "-c")):
     paths, others = [it for it in Path(FOLDER, folder).iterdir() if it.suffix != ".txt"], []
@@ -76,7 +78,6 @@ del os.environ["KRB5_KTNAME"]
 print(krbfile.files.file_name(None, "cc"), krbfile.files.file_name(None, "kt"))
 """
 
-# A cache that is saved to a new file, and names under which none is saved.
 NEW = """
 cache = Cache.create("u@R")
 cache.save("FILE:new")
@@ -119,8 +120,7 @@ refused(edit_keytab, "k")
 print(sorted(os.listdir()))
 """
 
-# Archives whose program and library are used, and others with a part that is a link, missing, or another's to change,
-# which root alone can give; and a library that is none.
+# Archives whose parts are used, and others with a part that is a link, missing, or another's to change.
 ORIGINS = """
 import runpy, shutil, subprocess
 folders = ["top/docs", "top/bin", "top/lib", "top/python/krbfile"]

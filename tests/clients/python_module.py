@@ -1,16 +1,17 @@
 """Python's module over the C library: each of its calls, with the expected results written by hand."""
 
+import os
 import sys
 from collections.abc import Iterable
 from functools import partial
 
-from clients import python_files
+from clients import python_files, python_records
 from keytabs.listings import BY_NAME, KEY_SIZES
 from keytabs.removals import AES256, FIVE
 from makers.images import (HOST, OFFSET, TWO, USUAL, VERSION_3, B, Credential, Entry, Name, cache, config, keytab, old)
 from pages.readme import no_library, surroundings
-from runs.harness import Outcome, Report, every, folder_of, run, text
-from words.phrases import LIBRARY_CODES, SHORT, code
+from runs.harness import TOP, Outcome, Report, every, folder_of, run, text
+from words.phrases import BAD_KEY, LIBRARY_CODES, SHORT, code
 
 Script = tuple[str, str, bytes, list[str]]  # a script's name, its text, its input, and the lines that it prints
 
@@ -99,8 +100,7 @@ with Cache.create("a@R", limit=30) as made:
     print(raised_by(lambda: made.store(first)), made.image.hex())
 """
 
-# What opens of the first bytes of a keytab and of a cache, of an entry cut to each length, with a count or a length that
-# is too large, and of few bytes: how many of these in turn have the same fault, places and status.
+# What opens of images that are cut or damaged: how many in turn have the same fault, places and status.
 CUT = """
 from itertools import groupby
 
@@ -125,15 +125,17 @@ NUMBERS = ("keytab.remove_at(it)", "keytab.rewrite([2, it])", "keytab.find('a@R'
            "Keytab.load('none', limit=it)", "Cache.load('none', limit=it)",
            *(f"store({name}=it)" for name in ("authtime", "starttime", "endtime", "renew_till", "flags", "is_skey")))
 ENCTYPES = ("keytab.find('a@R', 0, it)", "add(enctype=it)", "store(enctype=it)")
+KINDS = ("store(addresses=[(it, b'')])", "store(authdata=[(it, b'')])")
 BYTES = ("Keytab.open(it)", "Cache.open(it)", "add(key=it)", "cache.set_config('k', it)",
-         *(f"store({name}=it)" for name in ("key", "ticket", "second_ticket")))
+         *(f"store({name}=it)" for name in ("key", "ticket", "second_ticket")),
+         "store(addresses=[(2, it)])", "store(authdata=[(2, it)])")
 TEXT = ("keytab.find(it)", "add(principal=it)", "Cache.create(it)", "cache.find(it)", "store(client=it)",
         "store(server=it)", "cache.config(it)", "cache.config('k', it)", "cache.set_config(it, b'')",
         "cache.set_config('k', b'', it)")
 COPIES = ("copy.copy(it)", "copy.deepcopy(it)", "pickle.dumps(it)")
 REFUSED = (
     ("2**32, 2**32 + 2, -1", NUMBERS, "OverflowError"), ("'2', 2.0", NUMBERS, "TypeError"),
-    ("2**16, -1", ENCTYPES, "OverflowError"), ("2.0, None", ENCTYPES, "TypeError"),
+    ("2**16, -1", ENCTYPES + KINDS, "OverflowError"), ("2.0, None", ENCTYPES + KINDS, "TypeError"),
     ("'none', '18'", ENCTYPES, "ValueError"), ("16, '00ff', [1, 2], None", BYTES, "TypeError"),
     ("3, [97], None", TEXT, "TypeError"), ("keytab, cache", COPIES, "TypeError"),
 )
@@ -157,8 +159,7 @@ found = keytab.find("a@R")
 print(found.kvno == 2**32 - 1, found.enctype == 2**16 - 1, found.key, found.timestamp == 2**32 - 1)
 """
 
-# Bytes of a class that reports another length, cursors that become more whenever they are counted, and stores that were
-# never opened, one of them not even made whole: they end without a word.
+# Bytes that report another length, cursors that become more when counted, and stores that were never opened.
 STRANGE = """
 class Long(bytes):
     def __len__(self):
@@ -197,7 +198,6 @@ at_once((walk, walk, read, read, change))
 print(wrong, changed.image == image)
 """
 
-# Encryption types by name, keys that are not as long as those of their types, and the time of an entry.
 ETYPE_NAMES = """
 keytab, cache = Keytab.create(), Cache.create("u@R")
 before = int(time.time())
@@ -207,7 +207,7 @@ for name, etype in ETYPES.items():
     for length in (etype.key_length - 1, etype.key_length + 1):
         print(raised_by(lambda: keytab.add("b@R", 1, etype.number, bytes(length))))
 print(all(before <= entry.timestamp <= time.time() for entry in keytab))
-cache.store(Ticket(0, "u@R", "a@R", "rc4-hmac", b"", 0, 0, 0, 0, 0, False, False, b"", b""))
+cache.store(Ticket(0, "u@R", "a@R", "rc4-hmac", bytes(16), 0, 0, 0, 0, 0, False, False, b"", b""))
 keytab.add("c@R", 1, 99, b"", 0)
 print(cache.find("a@R").enctype, keytab.find("c@R").timestamp)
 """
@@ -267,8 +267,7 @@ SCRIPTS: tuple[Script, ...] = (
     ("strange arguments", STRANGE, TWO, ["16 45 [53]"]),
     ("encryption types", ETYPE_NAMES, b"", [
         *(line for name, number in BY_NAME.items() for length in (KEY_SIZES[number],) for line in (
-            f"{name} {number} {length}", *(f"ValueError: a key of type {number} has {length} bytes, not {length + more}"
-                                           for more in (-1, 1)))),
+            f"{name} {number} {length}", *2 * [f"KrbfileError 42 {BAD_KEY}"])),
         "True", "23 0",
     ]),
     ("threads", THREADS, TWO, ["[] True"]),
@@ -284,4 +283,12 @@ def check_scripts(scripts: Iterable[Script], report: Report, program: str) -> No
         report.compare(f"Python's module: {name}", Outcome(0, text(wanted)), got)
 
 
-check = every(partial(check_scripts, (*SCRIPTS, *python_files.SCRIPTS)), of="Python's module", lack=no_library)
+def check_types(report: Report, _program: str) -> None:
+    """Has mypy check the module."""
+    got = run("mypy", ("--strict", f"--cache-dir={os.devnull}", "python/krbfile"), TOP)
+    report.check("its types", [f"{got}"] if got.status else [])
+
+
+check = every(every(check_types, of="types of Python's module", needs=("mypy",)),
+              every(partial(check_scripts, (*SCRIPTS, *python_files.SCRIPTS, *python_records.SCRIPTS)),
+                    of="Python's module", lack=no_library))

@@ -50,7 +50,6 @@ at_once([lambda number=number: add("many", number) for number in range(5)])
 print(sorted(entry.principal for entry in Keytab.load("many")))
 """
 
-# Blocks that save nothing: they change nothing, end by an exception, or are never left.
 BLOCKS = """
 Path("k").write_bytes(image)
 
@@ -74,8 +73,7 @@ for block in (list, *(lambda it, error=error: stop(it, error) for error in (
         print(repr(error), state() == before, sorted(os.listdir()))
 """
 
-# A block that adds an entry and waits for a line. Before, it may fork a child that leaves the block too, one that lives
-# on, or one unknown to Python, so that it keeps copies of the sockets.
+# A block that adds an entry and waits for a line, perhaps beside a forked child or one unknown to Python.
 BLOCK = """
 from ctypes import PyDLL
 from krbfile import edit_keytab
