@@ -9,7 +9,7 @@ pub use Rattle.std.specs.Prelude.{map, ◌||◌, filter, ◌==◌, ◌&&◌, not
 pub use Rattle.std.specs.Str.{bytes_eq}
 pub use Rattle.krb_copy.specs.Classes.{ClassKey, AreClasses, IsClassKey, kind_of, has_among, emptiness, step_at, HaveClass, places_of, stays, has_key, IsClass}
 pub use Rattle.krb_copy.specs.Copying.{run_over, as_found, asked_as, NewParts, renamed, versioned, step_of, Copy, Held, run_start, Clash, Run, There, with_copy, run_after, go_on, has_lines, run_added, as_copied, Step, twins, step_among, is_kept, copied_lines, clash_line}
-pub use Rattle.krb_copy.specs.Laws.{IsInPlace, AllStay, OthersStay, changes_of, Has, NothingElse, GoesByItsEntries, AreEntries, ChangesAreReported, SecondDoesNothing, changes_over, AreHistories, HasEachAsked}
+pub use Rattle.krb_copy.specs.Laws.{IsInPlace, AllStay, OthersStay, changes_of, Has, NothingElse, GoesByItsEntries, AreEntries, ChangesAreReported, SecondDoesNothing, changes_over, AreHistories, HasEachAsked, ReportsNothing, AreMirrored, NoDifference, swapped}
 pub use Rattle.krb_copy.specs.Made.{IsRun, IsMade, name_in, new_in, IsRefusal, IsRefusedBy, Meets, Ends, end_at}
 pub use Rattle.krb_copy.specs.Texts.{name_texts, AreNames, AreTexts, asked_texts, entry_texts}
 pub use Rattle.krb_names.specs.Twins.{are_twins, are_same}
@@ -35,7 +35,6 @@ pub use Rattle.std.proofs.lemmas.Slice.Eq.{bytes_eq-Decides}
 pub use Rattle.krb_names.proofs.NameOrder.{names_tie}
 pub use Rattle.krb_names.specs.Hash.{name_cmp, hash_of}
 pub use Rattle.std.proofs.lemmas.Cmp.{nat_list_eq_equiv, nat_eq_equiv, on_equiv, and_equiv}
-pub use Rattle.krb_copy.specs.DiffLaws.{ReportsNothing, AreMirrored, NoDifference, swapped}
 pub use Rattle.krb_text.proofs.Found.{any_of_map}
 pub use Rattle.krb_copy.specs.declared.numbering.Row.{Row}
 pub use Rattle.std.proofs.Math.Bool.{and-false, or_comm, or-false, not-and_self, or_assoc, or-true}

@@ -1,11 +1,35 @@
 -- What two lists do not share is read of the first entries of their classes, over both lists in either order.
-use Rattle.krb_copy.proofs.Cited.{◌≡◌, Bool, true, false, cond, List, [], ◌∷◌, ◌++◌, length, Option, Some, None, refl, arith, sym, ap, subst, ◌∙◌, append-nil, append_assoc, map, ◌||◌, ◌&&◌, not, list_any, list_any-append, filter_map, cons_option, flat_map, find, inl, inr, option_map, is_some, EntryParts, PlacedEntry, placed_entries, are_twins, are_same, and-false, or_comm, or-false, not-false, or_cases, or_left, or_right, or_parts, nil_from_length, filter_map-append, AreMirrored, NoDifference, swapped}
+use Rattle.krb_copy.proofs.Cited.{◌≡◌, Bool, true, false, cond, List, [], ◌∷◌, ◌++◌, length, Option, Some, None, refl, arith, sym, ap, subst, ◌∙◌, append-nil, append_assoc, map, ◌||◌, ◌&&◌, not, list_any, list_any-append, filter_map, cons_option, flat_map, find, inl, inr, option_map, is_some, EntryParts, PlacedEntry, placed_entries, are_twins, are_same, and-false, or_comm, or-false, not-false, or_cases, or_left, or_right, or_parts, nil_from_length, filter_map-append, AreMirrored, NoDifference, swapped, AllByRecursion, KeytabState, as_found, run_start, copy_run, ReportsNothing, any_of_map}
 use Rattle.std.specs.List.Sorted.{IsPermutation}
 use Rattle.std.proofs.lemmas.List.Sorted.{IsPermutation-append_comm, IsPermutation-append_left, IsPermutation-append_right, IsPermutation-refl, IsPermutation-trans, length_permutation}
 use Rattle.krb_copy.specs.Diff.{Difference, Both, Ours, Theirs, diff_text, difference_at, difference_line, differences, firsts, has_more_keys, has_twin}
 use Rattle.krb_copy.proofs.Passing.{some_found}
 use Rattle.krb_copy.proofs.Alike.{twins_equiv, alike, same_are_twins}
-use Rattle.krb_copy.proofs.Silent.{HasAll, reported_nothing, reports_nothing}
+use Rattle.krb_copy.proofs.Elsewhere.{all_mapped}
+use Rattle.krb_copy.proofs.LawLemmas.{IsHeld}
+use Rattle.krb_copy.proofs.LawRuns.{all_before, bare, second_over, silent}
+
+-- ---- runs that report nothing
+
+-- a list has each of these entries, with its key
+abbrev pub HasAll : List PlacedEntry → List PlacedEntry → Type 0
+HasAll ys xs = AllByRecursion (λ x. list_any (λ y. are_same x.1 y.1) ys ≡ true) xs
+
+from_held : (ys xs : List PlacedEntry) → AllByRecursion (IsHeld (map as_found ys)) (bare xs) → HasAll ys xs
+from_held ys [] held = tt
+from_held ys (x ∷ xs) held = (sym (any_of_map (λ h. are_same x.1 h.entry) as_found ys) ∙ held.0, from_held ys xs held.1)
+
+pub reported_nothing : (replace : Bool) (asked : List PlacedEntry) (k : KeytabState) → ReportsNothing replace asked k → HasAll (placed_entries k) asked
+unfolding copy_run
+reported_nothing replace asked k t =
+    let s = silent replace asked k t.0 t.1 t.2 in
+    from_held (placed_entries k) asked (subst (AllByRecursion (IsHeld (run_start k).held)) (all_before replace asked (run_start k) t.0 t.1 s.1) s.3)
+
+pub reports_nothing : (replace : Bool) (asked : List PlacedEntry) (k : KeytabState) → HasAll (placed_entries k) asked → ReportsNothing replace asked k
+unfolding copy_run
+reports_nothing replace asked k has =
+    let held = all_mapped _ (λ x. IsHeld (map as_found (placed_entries k)) x.1) asked (λ x any. any_of_map (λ h. are_same x.1 h.entry) as_found (placed_entries k) ∙ any) has in
+    let r = second_over replace asked (run_start k) held in (r.0, r.1, r.3)
 
 -- ---- the order of the entries
 

@@ -3,9 +3,7 @@ pub use Rattle.krb_copy.proofs.Cited.{All, AllByRecursion, AreKeys, AreTexts, Bo
 pub use Rattle.krb_copy.proofs.Alike.{twins_equiv}
 pub use Rattle.krb_copy.proofs.ClassKeys.{key_of_fields, classes_agree}
 pub use Rattle.krb_copy.proofs.ClassesAfter.{after_clash, after_copy, after_there, met, or_added, step_is, one_found}
-pub use Rattle.krb_copy.proofs.DiffKeys.{all_marked, as_long, first_added, get_or_none, key_added, key_known, none_added, row_below}
+pub use Rattle.krb_copy.proofs.DiffLines.{all_marked, as_long, first_added, get_or_none, key_added, key_known, none_added, row_below}
 pub use Rattle.krb_copy.proofs.FoundTexts.{AreAppended, AreFound, new_names, one_asked, own_names, one_further, texts_more}
-pub use Rattle.krb_copy.proofs.LawHistories.{all_stay, are_histories}
-pub use Rattle.krb_copy.proofs.LawRuns.{changes_are_reported, others_stay}
 pub use Rattle.krb_copy.proofs.Numbers.{drop_here, one_more, row_is, take_here}
 pub use Rattle.krb_copy.proofs.Runs.{IsOnTheWay, all_met, copied_run, ended, first_left, one_met, refusal_is, refused_run}

@@ -5,7 +5,6 @@ pub mod ClassKeys
 pub mod ClassesAfter
 pub mod FoundTexts
 pub mod Numbers
-pub mod DiffKeys
 pub mod DiffLines
 pub mod Runs
 pub mod Elsewhere
@@ -13,9 +12,6 @@ pub mod LawLemmas
 pub mod RunSteps
 pub mod LawRuns
 pub mod Gone
-pub mod LawHistories
-pub mod NothingElse
-pub mod Silent
 pub mod Differences
 pub mod OnLiterals
 pub mod ForAnswers

@@ -1,6 +1,7 @@
 -- Laws of the definitions.
-use Rattle.std.specs.Prelude.{◌≡◌, ℕ, List, [], ◌∷◌, ◌++◌, map, Bool, false, true, ◌==◌, Some, Result, Ok, Err}
+use Rattle.std.specs.Prelude.{◌≡◌, ◌↔◌, ℕ, List, [], ◌∷◌, ◌++◌, map, Bool, false, true, ◌==◌, Some, Result, Ok, Err}
 use Rattle.std.specs.List.{AllByRecursion, list_any}
+use Rattle.std.specs.List.Sorted.{IsPermutation}
 use Rattle.krb_walk.specs.declared.event.Event.{Event}
 use Rattle.krb_walk.specs.declared.event.Event.TheVariants.{Put, Cut}
 use Rattle.krb_walk.specs.declared.refusal.Code.{Code}
@@ -11,6 +12,7 @@ use Rattle.krb_keytab.specs.Form.{IsEntry}
 use Rattle.krb_keytab.specs.Rewrite.{keytab_rules}
 use Rattle.krb_keytab.specs.Store.{KeytabState, entry_at_place}
 use Rattle.krb_names.specs.Twins.{are_twins, are_same}
+use Rattle.krb_copy.specs.Diff.{Difference, Both, Ours, Theirs, diff_text, differences}
 use Rattle.krb_copy.specs.Copying.{Held, Run, Step, There, Clash, Copy, copy_run, has_lines, run_after, run_start, step_of}
 
 -- the keytab has an entry with name, version, enctype and key of this one
@@ -78,3 +80,23 @@ GoesByItsEntries = (replace : Bool) (asked : List PlacedEntry) (k : KeytabState)
 abbrev pub NothingElse : Type 0
 NothingElse = (replace : Bool) (asked : List PlacedEntry) (k : KeytabState) (run : Run) → AreEntries asked → copy_run replace asked k ≡ Ok run
     → (place : ℕ) (e : EntryParts) → entry_at_place run.keytab place ≡ Some e → list_any (λ x. are_same x.1 e) (placed_entries k ++ asked) ≡ true
+
+-- ---- what two keytabs do not share
+
+-- a run that copies `asked` into a keytab reports nothing
+abbrev pub ReportsNothing : Bool → List PlacedEntry → KeytabState → Type 0
+ReportsNothing replace asked k = (run : Run) × (copy_run replace asked k ≡ Ok run) × (run.text ≡ [])
+
+-- two keytabs have the same keys iff copying each into the other reports nothing
+abbrev pub NoDifference : Type 0
+NoDifference = (replace : Bool) (j k : KeytabState) → (diff_text (placed_entries j) (placed_entries k) ≡ []) ↔ (ReportsNothing replace (placed_entries j) k × ReportsNothing replace (placed_entries k) j)
+
+-- a difference the other way round
+abbrev pub swapped : Difference → Difference
+swapped (Ours x) = Theirs x
+swapped (Both x y) = Both y x
+swapped (Theirs y) = Ours y
+
+-- the differences the other way round are the same ones, in another order
+abbrev pub AreMirrored : Type 0
+AreMirrored = (xs ys : List PlacedEntry) → IsPermutation (map swapped (differences xs ys)) (differences ys xs)

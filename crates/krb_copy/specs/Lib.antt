@@ -1,7 +1,6 @@
 pub mod Copying
 pub mod Diff
 pub mod Laws
-pub mod DiffLaws
 -- For private contracts alone.
 pub mod Texts
 pub mod Classes

@@ -54,11 +54,8 @@ impl<A: Allocator + Copy> Texts<A> {
         ensures bytes { self.new.bytes ≡ self.old.bytes }
         ensures lens { OnOk result (self.new.lens.items ≡ self.old.lens.items ++ len ∷ []) }
     {
-        let Ok(len) = u32::try_from(len) else {
-            return Err(NoMemory);
-        };
-        self.lens.push(len)?;
-        Ok(())
+        let len = u32::try_from(len).map_err(|_| NoMemory)?;
+        Ok(self.lens.push(len)?)
     }
 
     // Appends a name.

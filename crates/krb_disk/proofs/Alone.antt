@@ -69,10 +69,6 @@ only path file name = if bytes_eq name path then file else None
 elsewhere : (path name : List ℕ) (file : Option disk.File) → name ≢ path → only path file name ≡ None
 elsewhere path name file other = cond_both (bytes_eq name path) file None (λ (f : Option disk.File). f ≡ None) (λ is. absurd (other ((bytes_eq-Decides name path).0 is))) (λ is. refl)
 
--- nowhere
-nowhere : (path name : List ℕ) → only path None name ≡ None
-nowhere path name = cond_both (bytes_eq name path) None None (λ (f : Option disk.File). f ≡ None) (λ is. refl) (λ is. refl)
-
 abbrev at : Stage → disk.Names → Bool → Bool → disk.Moment
 at stage names saved fresh = record { stage = stage; names = names; theirs = λ name. None; saved = saved; fresh = fresh }
 
@@ -95,7 +91,7 @@ saves =
     let watched = disk.Watch true ∷ (disk.Sync ∷ written) in
     let compared = at (Same None) (only (codes "f.krbfile") synced) false true in
     let done = at Lost (only (codes "f") synced) true false in
-    let m = next disk.Make [] (beside Lost None) (beside Made new) (record { stage = refl; names = nowhere (codes "f.krbfile"); saved = refl; fresh = refl }) (asks disk.Make Lost Made None new (refl, refl, refl)) in
+    let m = next disk.Make [] (beside Lost None) (beside Made new) (record { stage = refl; names = λ name. cond_both (bytes_eq name (codes "f.krbfile")) None None (λ (f : Option disk.File). f ≡ None) (λ is. refl) (λ is. refl); saved = refl; fresh = refl }) (asks disk.Make Lost Made None new (refl, refl, refl)) in
     let l = next disk.Lock (disk.Make ∷ []) (beside Made new) (beside Locked new) m (asks disk.Lock Made Locked new new (refl, refl, refl)) in
     let a = next disk.AtPath calls (beside Locked new) (beside Agreed new) l (asks disk.AtPath Locked Agreed new new (refl, refl)) in
     let d = next disk.Double (disk.AtPath ∷ calls) (beside Agreed new) (beside Held new) a (asks disk.Double Agreed Held new new (refl, refl, refl)) in

@@ -3,7 +3,7 @@ use Rattle.std.proofs.Common.{◌≡◌, ◌≢◌, ℕ, ◌+◌, true, false, L
 use Rattle.std.proofs.lemmas.Bool.{true_from_ne_false}
 use Rattle.krb_disk.specs.declared.stage.Stage.{Stage}
 use Rattle.krb_disk.specs.declared.stage.Stage.TheVariants.{Written, Examined, Permitted, Synced, Quiet, Ours, Same}
-use Rattle.krb_disk.specs.Disk.{File, Names, Save, Call, AtPath, Permit, Compare, Watch, Rename, Intrude, Pass, Moment, Turns, Does, Happens, IsFirst, IsLeft, HasDueMode, HasLooked, IsSafe, own}
+use Rattle.krb_disk.specs.Disk.{File, Names, Save, Call, AtPath, Permit, Compare, Watch, Rename, Intrude, Pass, Moment, Turns, Does, Happens, IsLeft, HasDueMode, HasLooked, IsSafe, own}
 use Rattle.krb_disk.specs.Stages.{IsReady, IsSame}
 use Rattle.krb_disk.specs.NewFile.{new_path}
 
@@ -52,26 +52,12 @@ apart path is =
     let same : length path ≡ length (path ++ codes ".krbfile") = ap length is in
     omega arith
 
--- the invariant holds before the first call
-first_holds : (save : Save) (m : Moment) → IsFirst m → Holds save m
-first_holds save m first = record {
-  old = λ is. first.names save.path;
-  whole = λ is. absurd cc;
-  others = λ name p q. first.names name;
-  snapshot = λ is. absurd cc;
-  come = rw first.stage tt;
-}
-
--- a new file that may be renamed over the old one is whole
-ready_whole : (save : Save) (s : Stage) (file : Option File) → IsReady s → HasCome save s file → IsWhole save file
-ready_whole save s file ready come = grind arith
-
--- and by any call
+-- it holds after any call
 does_holds : (save : Save) (call : Call) (m n : Moment) → Holds save m → Does save call m n → Holds save n
 does_holds save Compare m n h d = rw d.now (record { old = h.old; whole = h.whole; others = h.others; snapshot = λ is. d.snapshot; come = rw d.due at h.come })
 does_holds save Rename m n h d = rw d.now (record {
   old = λ is. absurd cc;
-  whole = λ is. rw d.named (ready_whole save m.stage (m.names (new_path save.path)) d.due h.come);
+  whole = λ is. rw d.named (let due = d.due in let come = h.come in grind arith);
   others = λ name p q. d.others name p q ∙ h.others name p q;
   snapshot = λ is. absurd cc;
   come = tt;
@@ -137,12 +123,8 @@ same_looked _ calls same looks = absurd same
 
 -- so it holds at each moment
 happens_holds : (save : Save) (calls : List Call) (now : Moment) → Happens save calls now → Holds save now
-happens_holds save [] now happens = first_holds save now happens
+happens_holds save [] now first = record { old = λ is. first.names save.path; whole = λ is. absurd cc; others = λ name p q. first.names name; snapshot = λ is. absurd cc; come = rw first.stage tt }
 happens_holds save (call ∷ calls) now happens = does_holds save call happens.0 now (happens_holds save calls happens.0 happens.1.0) happens.1.1
-
--- a whole file has its bytes and its mode after a crash
-left_whole : (save : Save) (file left : Option File) → IsWhole save file → IsLeft file left → IsPermitted save left
-left_whole save file left whole leaves = grind arith
 
 -- each moment is safe
 pub each_moment : (save : Save) (calls : List Call) (now : Moment) (left : Names) → Happens save calls now → ((name : List ℕ) → IsLeft (now.names name) (left name)) → IsSafe save calls now left
@@ -150,7 +132,7 @@ each_moment save calls now left happens leaves =
     let h : Holds save now = happens_holds save calls now happens in
     record {
       old = λ saved. rw (h.old saved) at (leaves save.path);
-      whole = λ saved. left_whole save (now.names save.path) (left save.path) (h.whole saved) (leaves save.path);
+      whole = λ saved. let whole = h.whole saved in let is = leaves save.path in grind arith;
       others = λ name p q. rw (h.others name p q) at (leaves name);
       snapshot = λ same window. h.snapshot (true_from_ne_false now.fresh (λ is. window (same, is)));
       looked = λ same. same_looked now.stage (own calls) same (happens_look save calls now happens);

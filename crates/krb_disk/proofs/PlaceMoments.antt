@@ -68,21 +68,13 @@ Now save cleared _ i x = Unit {0}
 abbrev Was : PlaceSave → Bool → PlaceStage → ℕ → Option ℕ → Type 0
 Was save cleared s i x = (Old save i x ⊎ New save i x) × Seen save cleared s i x
 
--- what is known after a call that did what it is to do
-made : (save : PlaceSave) (cleared : Bool) (call : PlaceCall) (s t u : PlaceStage) (i : ℕ) (x y : Option ℕ) → Fits save → Was save cleared s i x → Now save cleared s i x
-    → Turns save call s t u → Makes save s call i x y → Was save (clears call cleared) t i y × Now save (clears call cleared) t i y
-made save cleared Restore Mixed t u i x y fits was now turns makes = grind (arith, slice_get_past)
-made save cleared Restore Torn t u i x y fits was now turns makes = grind (arith, slice_get_past)
-made save cleared Restore Cleared t u i x y fits was now turns makes = grind (arith, slice_get_past)
-made save cleared _ s t u i x y fits was now turns makes = grind (arith, slice_get_past)
-
--- and after one that failed, which did that or nothing at this place
-failed : (save : PlaceSave) (cleared : Bool) (call : PlaceCall) (s t u : PlaceStage) (i : ℕ) (x y : Option ℕ) → Fits save → Was save cleared s i x → Now save cleared s i x
-    → Turns save call s t u → (y ≡ x) ⊎ Makes save s call i x y → Was save (clears call cleared) u i y × Now save (clears call cleared) u i y
-failed save cleared Restore Mixed t u i x y fits was now turns makes = grind (arith, slice_get_past)
-failed save cleared Restore Torn t u i x y fits was now turns makes = grind (arith, slice_get_past)
-failed save cleared Restore Cleared t u i x y fits was now turns makes = grind (arith, slice_get_past)
-failed save cleared _ s t u i x y fits was now turns makes = grind (arith, slice_get_past)
+-- what is known after a call: of one that did what it is to do, and of one that failed, which did that or nothing at this place
+after : (save : PlaceSave) (cleared : Bool) (call : PlaceCall) (s t u : PlaceStage) (i : ℕ) (x y : Option ℕ) → Fits save → Was save cleared s i x → Now save cleared s i x → Turns save call s t u
+    → (Makes save s call i x y → Was save (clears call cleared) t i y × Now save (clears call cleared) t i y) × ((y ≡ x) ⊎ Makes save s call i x y → Was save (clears call cleared) u i y × Now save (clears call cleared) u i y)
+after save cleared Restore Mixed t u i x y fits was now turns = (λ makes. grind (arith, slice_get_past), λ makes. grind (arith, slice_get_past))
+after save cleared Restore Torn t u i x y fits was now turns = (λ makes. grind (arith, slice_get_past), λ makes. grind (arith, slice_get_past))
+after save cleared Restore Cleared t u i x y fits was now turns = (λ makes. grind (arith, slice_get_past), λ makes. grind (arith, slice_get_past))
+after save cleared _ s t u i x y fits was now turns = (λ makes. grind (arith, slice_get_past), λ makes. grind (arith, slice_get_past))
 
 -- a call that failed leaves what is known of the earlier bytes
 still : (save : PlaceSave) (cleared : Bool) (call : PlaceCall) (s t u : PlaceStage) (i : ℕ) (x : Option ℕ) → Was save cleared s i x
@@ -108,11 +100,11 @@ event_holds : (save : PlaceSave) (event : Event) (m n : PlaceMoment) → Fits sa
 event_holds save Compare m n fits h d = subst (λ (x : PlaceMoment). Holds save x) (sym d.now) (λ alone i. (λ x has. let same = d.has i in let none = d.synced in grind arith, tt))
 event_holds save (Do call) m n fits h d = λ alone i.
     let k = h (sym d.alone ∙ alone) i in
-    let new = made save m.cleared call m.stage n.stage d.failed i (m.bytes i) (n.bytes i) fits (k.0 (m.bytes i) (inl refl)) k.1 d.turns (d.makes i) in
+    let new = (after save m.cleared call m.stage n.stage d.failed i (m.bytes i) (n.bytes i) fits (k.0 (m.bytes i) (inl refl)) k.1 d.turns).0 (d.makes i) in
     rw d.earlier (rw d.cleared (λ x has. elim has [ inl is ↦ rw is new.0 | inr old ↦ past save m.cleared call m.stage n.stage d.failed m.bytes m.earlier i x fits (k.0 x) d.turns old ], new.1))
 event_holds save (Fail call) m n fits h d = λ alone i.
     let k = h (sym d.alone ∙ alone) i in
-    let new = failed save m.cleared call m.stage d.done n.stage i (m.bytes i) (n.bytes i) fits (k.0 (m.bytes i) (inl refl)) k.1 d.turns (d.makes i) in
+    let new = (after save m.cleared call m.stage d.done n.stage i (m.bytes i) (n.bytes i) fits (k.0 (m.bytes i) (inl refl)) k.1 d.turns).1 (d.makes i) in
     rw d.earlier (rw d.cleared (λ x has. elim has [ inl is ↦ rw is new.0 | inr old ↦ still save m.cleared call m.stage d.done n.stage i x (k.0 x (had call m.bytes m.earlier i x old)) d.turns ], new.1))
 event_holds save Intrude m n fits h d = subst (λ (x : PlaceMoment). Holds save x) (sym d.now) (λ alone. absurd cc)
 

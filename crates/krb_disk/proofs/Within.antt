@@ -16,18 +16,14 @@ within_second a b = and_assoc b a b ∙ ap (λ (x : ℕ). bit_and a x) (and_self
 within-trans : (a b c : ℕ) → IsWithin a b → IsWithin b c → IsWithin a c
 within-trans a b c p q = ap (λ (x : ℕ). bit_and x c) (sym p) ∙ and_assoc c a b ∙ ap (λ (x : ℕ). bit_and a x) q ∙ p
 
--- no rights are a subset of any
-within_none : (a : ℕ) → IsWithin 0 a
-within_none a = let le = and_le_l 0 a in omega arith
-
 -- the new mode gives nobody more than the old one
 pub gives_no_more : (has_owner has_group : Bool) (old new : ℕ) → IsNewMode has_owner has_group old new → GivesNoMore has_owner has_group old new
 gives_no_more true true old new n = grind (arith, and_self)
 gives_no_more false true old new n = grind (arith, within_first, within_second)
-gives_no_more true false old new n = grind (arith, within_first, within_second, within_none)
+gives_no_more true false old new n = grind (arith, within_first, within_second, and_le_l)
 gives_no_more false false old new n =
     let both = bit_and (other_rights old) (group_rights old) in
     let among : IsWithin (bit_and both (owner_rights old)) both = within_first both (owner_rights old) in
     let first = within-trans _ _ _ among (within_first (other_rights old) (group_rights old)) in
     let second = within-trans _ _ _ among (within_second (other_rights old) (group_rights old)) in
-    grind (arith, within_second, within_none)
+    grind (arith, within_second, and_le_l)

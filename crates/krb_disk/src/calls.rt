@@ -65,7 +65,6 @@ pub struct PlaceFile<F> {
     stage: PlaceStage,
 }
 
-// Returns what the system reports of an open file.
 fn describe<F: OpenFile>(file: &F) -> io::Result<Found> {
     Ok(Found::of(&file.metadata()?))
 }
@@ -78,7 +77,6 @@ fn is_at_path<R: System>(looks: &Looks<'_, R>, path: &str, file: &R::File) -> io
 }
 
 impl<'a, R> Calls<'a, R> {
-    /// Returns the calls on `rt`, with no save made yet.
     pub fn new(rt: &'a R) -> Calls<'a, R>
         ensures { entries_of result.saved ≡ [] }
     {
@@ -90,7 +88,6 @@ impl<'a, R> Calls<'a, R> {
         }
     }
 
-    /// Notes what was loaded.
     pub fn note_loaded(&mut self, found: Found)
         ensures { self.new.saved ≡ self.old.saved }
     {
@@ -103,7 +100,6 @@ impl<'a, R> Calls<'a, R> {
             .is_some_and(|loaded| is_same_file(&loaded, found))
     }
 
-    /// Returns the calls that change nothing.
     pub fn looks(&self) -> &Looks<'a, R> {
         &self.looks
     }
@@ -128,7 +124,6 @@ impl<R: System> Calls<'_, R> {
         })
     }
 
-    /// Returns whether the new file is still at its path.
     pub fn is_at_path(&self, file: &mut NewFile<String<R::A>, R::File>) -> io::Result<bool>
         ensures stage { IfOk result (λ is. IsTrue is
             → file.new ≡ record file.old { stage = stood file.old.stage }) }
@@ -156,14 +151,12 @@ impl<R: System> Calls<'_, R> {
         Ok(())
     }
 
-    /// Removes the new file.
     pub fn remove(&self, file: &NewFile<String<R::A>, R::File>) -> io::Result<()>
         requires found { IsFound file.now.stage }
     {
         fs::remove_file(self.rt, &file.path)
     }
 
-    /// Writes all the bytes to the new file.
     pub fn write(&self, new: &mut NewFile<String<R::A>, R::File>, bytes: &[u8]) -> io::Result<()>
         requires held { new.old.stage ≡ Held }
         ensures written { OnOk result (Appends (R.File.contents new.old.file.file) (R.File.contents new.new.file.file) bytes.now) }
@@ -179,7 +172,6 @@ impl<R: System> Calls<'_, R> {
         Ok(())
     }
 
-    /// Returns what the system reports of the new file.
     pub fn stat(&self, file: &mut NewFile<String<R::A>, R::File>) -> io::Result<Found>
         requires written { file.old.stage ≡ Written }
         ensures { IfOk result (λ found. file.new ≡ record file.old { stage = Examined found }) }

@@ -33,7 +33,6 @@ pub struct Deadline {
 }
 
 impl Deadline {
-    /// Returns a wait that begins now.
     pub fn new<R: System>(looks: &Looks<'_, R>) -> Deadline
         ensures { result.tries ≡ 0 }
     {
@@ -65,12 +64,10 @@ impl Deadline {
         }
     }
 
-    /// True after 200 tries or a second.
     pub fn is_short<R: System>(&self, looks: &Looks<'_, R>) -> bool {
         self.tries >= FEW_TRIES || self.has_taken(looks, FEW_SECONDS)
     }
 
-    /// Returns whether its deadline passed, by the clock.
     pub fn is_over<R: System>(&self, looks: &Looks<'_, R>) -> bool {
         self.has_taken(looks, self.most)
     }

@@ -94,7 +94,6 @@ impl<'a, R: rt::Files + Alloc> DiskFiles<'a, R> {
         self.way = Way::InPlace;
     }
 
-    // Counts a failure, up to the greatest u64, and notes its cause.
     fn count_failure(&mut self, cause: Cause)
         ensures fails { Fails self.old self.new }
         ensures count { self.old.failures ≤ self.new.failures }

@@ -36,30 +36,25 @@ pub struct NotHeld<A: Allocator> {
 
 // Returns whether a name that could not be held, by this fault, leads to a pipe.
 fn is_pipe<R: System>(looks: &Looks<'_, R>, name: &str, fault: DiskFault) -> bool {
-    match fault {
-        DiskFault::Failed(Cause::NotAPlainFile | Cause::NoName) => {
-            looks.come_to(name).is_ok_and(|found| found.is_pipe())
-        }
-        _ => false,
-    }
+    let may_be = matches!(
+        fault,
+        DiskFault::Failed(Cause::NotAPlainFile | Cause::NoName)
+    );
+    may_be && looks.come_to(name).is_ok_and(|found| found.is_pipe())
 }
 
 impl<A: Allocator> NotHeld<A> {
-    // Returns why the file of that name is not held.
     fn of<R: System<A = A>>(looks: &Looks<'_, R>, name: &str, why: DiskFault) -> NotHeld<A> {
         if !is_pipe(looks, name, why) {
             return NotHeld { why, pipe: None };
         }
-        match String::from_str(looks.alloc(), name) {
-            Ok(name) => NotHeld {
-                why,
-                pipe: Some(name),
-            },
-            Err(_) => NotHeld {
-                why: DiskFault::NoMemory,
-                pipe: None,
-            },
-        }
+        let pipe = String::from_str(looks.alloc(), name).ok();
+        let why = if pipe.is_some() {
+            why
+        } else {
+            DiskFault::NoMemory
+        };
+        NotHeld { why, pipe }
     }
 
     /// Loads the file of that name, which is not held.
@@ -79,17 +74,6 @@ impl<A: Allocator> NotHeld<A> {
             (_, DiskFault::NoMemory) => Err(ReadFault::Disk(DiskFault::NoMemory)),
             _ => read_file(looks, alloc, name, limit),
         }
-    }
-}
-
-// Returns what a save that replaced a file left behind.
-fn aftermath_of(has_lost: bool) -> Option<Aftermath>
-    ensures { IsDone result }
-{
-    if has_lost {
-        Some(Aftermath::LostChange)
-    } else {
-        None
     }
 }
 
@@ -168,12 +152,13 @@ impl<R: System> Held<R> {
         ensures refused { IfErr result IsRefused }
     {
         match self {
-            Held::Replacing(hold) => Ok(aftermath_of(hold.save(calls, bytes)?)),
+            Held::Replacing(hold) => {
+                Ok(hold.save(calls, bytes)?.then_some(Aftermath::LostChange))
+            }
             Held::InPlace(old) => save_in_place(calls, old, bytes),
         }
     }
 
-    // Returns whether it was taken by that name.
     fn is_of(&self, name: &str) -> bool
         ensures { IsTrue result ↔ (name_of self.now ≡ name.now) }
     {
@@ -204,7 +189,6 @@ impl<R: System> Held<R> {
         save_anew(calls, name, bytes, way)
     }
 
-    /// Ends the hold.
     pub fn release(self, calls: &Calls<'_, R>) {
         if let Held::Replacing(hold) = self {
             hold.release(calls);

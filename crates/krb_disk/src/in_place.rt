@@ -5,7 +5,7 @@ ghost use Rattle.krb_files.specs.Log.{entries_of};
 ghost use Rattle.krb_disk.specs.Aftermaths.{IsDone, IsRefused};
 ghost use Rattle.krb_disk.specs.Content.{AtEach, IsPatch, Replaces, TurnsInto, Writes};
 ghost use Rattle.krb_disk.specs.Stages.{HasFailed, IsAftermath, IsToWatch, looked, unlooked};
-ghost use Rattle.krb_disk.specs.declared.stage.PlaceStage.TheVariants.{Untouched, Same, Ready, Finished, Saved, Whole};
+ghost use Rattle.krb_disk.specs.declared.stage.PlaceStage.TheVariants.{Same, Ready, Finished, Saved, Whole};
 
 mod bring_back;
 
@@ -63,13 +63,11 @@ fn lengthen<R: System>(
     }
     calls.extend(file, patch)?;
     calls.sync_in_place(file)?;
-    match check(calls, file, old, patch.end(), deadline) {
-        Ok(()) => Ok(()),
-        Err(fault) => {
-            file.give_up();
-            Err(fault)
-        }
+    let checked = check(calls, file, old, patch.end(), deadline);
+    if checked.is_err() {
+        file.give_up();
     }
+    checked
 }
 
 // Writes the new bytes over old ones, cuts the file if it gets shorter, and syncs it.
@@ -94,7 +92,6 @@ fn write_over<R: System>(
     Ok(calls.sync_in_place(file)?)
 }
 
-// Writes the new bytes: those past the old end, and then those over old ones.
 fn write<R: System>(
     calls: &Calls<'_, R>,
     file: &mut PlaceFile<R::File>,

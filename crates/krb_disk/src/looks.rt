@@ -65,7 +65,6 @@ impl Found {
         }
     }
 
-    /// Returns the permission bits of a plain file, or `None` of any other.
     pub fn permissions(&self) -> Option<u32>
         ensures { result ≡ permissions self.now }
     {
@@ -118,7 +117,6 @@ impl<F: Read> Read for Opened<F> {
 }
 
 impl<F: OpenFile> Opened<F> {
-    /// Returns what the system reports of it.
     pub fn describe(&self) -> io::Result<Found> {
         Ok(Found::of(&self.file.metadata()?))
     }
@@ -154,7 +152,6 @@ impl<R: System> Looks<'_, R> {
         }
     }
 
-    /// Opens a file for reading. Returns `None` if there is none.
     pub fn open(&self, path: &str) -> io::Result<Option<Opened<R::File>>> {
         match fs::open(self.rt, path) {
             Ok(file) => Ok(Some(Opened { file })),
@@ -167,30 +164,25 @@ impl<R: System> Looks<'_, R> {
         self.rt.alloc()
     }
 
-    /// Returns the target of a symbolic link.
     pub fn follow(&self, path: &str) -> io::Result<PathBuf<R::A>> {
         fs::read_link(self.rt, path)
     }
 
-    /// Sleeps.
     pub fn pause(&self, time: Duration) {
         thread::sleep(self.rt, time);
     }
 
-    /// Returns the time of the monotonic clock, or `None` if it cannot be read.
     pub fn now(&self) -> Option<Instant> {
         Instant::now(self.rt).ok()
     }
 }
 
-/// Returns whether both are the same file: one device and inode.
 pub fn is_same_file(one: &Found, other: &Found) -> bool
     ensures { IsTrue result ↔ IsSameFile one.now other.now }
 {
     one.device == other.device && one.inode == other.inode
 }
 
-/// Returns whether both are the same file, with the same type, mode, owner, group and size.
 pub fn is_unchanged(old: &Found, new: &Found) -> bool
     ensures { IsTrue result ↔ IsUnchanged old.now new.now }
 {

@@ -1,6 +1,6 @@
 //! The new file beside one to be saved. The program that created and locked it may change that one.
 
-ghost use Rattle.std.specs.Prelude.{◌≡◌, true, IfOk, IfSome, IsTrue, string_bytes};
+ghost use Rattle.std.specs.Prelude.{◌≡◌, true, IfOk, IsTrue, string_bytes};
 ghost use Rattle.krb_disk.specs.NewFile.{HoldsAt, IsHeldAt};
 ghost use Rattle.krb_disk.specs.declared.stage.Stage.TheVariants.{Made};
 
@@ -28,7 +28,6 @@ pub enum Attempt<F> {
     InTheWay,
 }
 
-/// Removes our new file, unless its path no longer names it.
 pub fn remove_own<R: System>(
     calls: &Calls<'_, R>,
     file: &mut NewFile<String<R::A>, R::File>,

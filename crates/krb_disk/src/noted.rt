@@ -2,7 +2,6 @@
 
 use std::io::{self, Write};
 
-/// A file that keeps the error of its last failed write.
 #[derive(Drop)]
 pub struct Noted<F> {
     pub file: F,
@@ -12,7 +11,6 @@ pub struct Noted<F> {
 impl<F> Noted<F> {
     ghost use Rattle.std.specs.Prelude.{◌≡◌};
 
-    /// Wraps a file, with no error yet.
     pub fn new(file: F) -> Noted<F>
         ensures { result.file ≡ file }
     {
@@ -21,10 +19,7 @@ impl<F> Noted<F> {
 
     /// Returns the last error, or `WriteZero` if there was none: a write that took no bytes has no error of its own.
     pub fn error(&self) -> io::Error {
-        match self.error {
-            Some(error) => error,
-            None => io::Error::from(io::ErrorKind::WriteZero),
-        }
+        self.error.unwrap_or(io::ErrorKind::WriteZero.into())
     }
 }
 
@@ -32,13 +27,11 @@ impl<F: Write> Write for Noted<F> {
     ghost contents = { λ noted. F.contents noted.file };
 
     fn write(&mut self, buf: &[u8]) -> io::Result<usize> {
-        match self.file.write(buf) {
-            Ok(count) => Ok(count),
-            Err(error) => {
-                self.error = Some(error);
-                Err(error)
-            }
+        let written = self.file.write(buf);
+        if let Err(error) = &written {
+            self.error = Some(*error);
         }
+        written
     }
 
     fn flush(&mut self) -> io::Result<()> {

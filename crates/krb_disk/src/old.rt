@@ -129,14 +129,12 @@ impl<R: System> Old<R> {
         Err(DiskFault::Failed(Cause::InUse))
     }
 
-    /// Returns whether it was held by that name.
     pub fn is_of(&self, name: &str) -> bool
         ensures { IsTrue result ↔ (string_bytes self.now.target.name ≡ name.now) }
     {
         self.target.name() == name
     }
 
-    // Reads the file through its handle.
     fn read<A: Allocator>(
         &mut self,
         calls: &Calls<'_, R>,
@@ -196,7 +194,6 @@ impl<R: System> Old<R> {
         }
     }
 
-    /// Returns how the locks of the file may be listed.
     pub fn listed(&self) -> Listed {
         match &self.handle {
             Some(file) => file.listed(),

@@ -4,7 +4,7 @@ ghost use Rattle.std.specs.Prelude.{◌≡◌, ◌≢◌, ◌↔◌, ℕ, ◌≤
 ghost use Rattle.krb_disk.specs.Content.{IsPatch};
 
 /// How many bytes are compared at once.
-const PIECE: usize = 4_096;
+const PIECE: usize = 512;
 
 /// The bytes of a file before and after a save, and the places from which and up to which new ones are written over old ones:
 /// from the first that differs to the last one that does, among those that both have.
@@ -16,25 +16,11 @@ pub struct Patch<'a> {
     pub last: usize,
 }
 
-// Returns whether both have the same bytes from one place to another.
 fn is_same_part(old: &[u8], new: &[u8], from: usize, to: usize) -> bool
     requires { (from ≤ to) × (to ≤ length old.now) × (to ≤ length new.now) }
     ensures { IsTrue result → (i : ℕ) → from ≤ i → i < to → slice_get old.now i ≡ slice_get new.now i }
 {
     old[from..to] == new[from..to]
-}
-
-// Returns how many of the first `most` bytes are alike, counted in whole pieces up to the first that differs.
-fn same_pieces(old: &[u8], new: &[u8], most: usize) -> usize
-    requires { (most ≤ length old.now) × (most ≤ length new.now) }
-    ensures within { result ≤ most }
-    ensures same { (i : ℕ) → i < result → slice_get old.now i ≡ slice_get new.now i }
-{
-    let mut at = 0;
-    while PIECE <= most - at && is_same_part(old, new, at, at + PIECE) {
-        at += PIECE;
-    }
-    at
 }
 
 // Returns how many of the first `most` bytes are alike before the first that differs.
@@ -44,22 +30,10 @@ fn same_front(old: &[u8], new: &[u8], most: usize) -> usize
     ensures same { (i : ℕ) → i < result → slice_get old.now i ≡ slice_get new.now i }
     ensures differs { result < most → slice_get old.now result ≢ slice_get new.now result }
 {
-    let mut at = same_pieces(old, new, most);
+    let mut at = 0;
     while at < most && old[at] == new[at] {
-        at += 1;
-    }
-    at
-}
-
-// Returns the place after the last of the pieces before `most` that differs, or less than a piece after `first`.
-fn after_last_piece(old: &[u8], new: &[u8], first: usize, most: usize) -> usize
-    requires { (first ≤ most) × (most ≤ length old.now) × (most ≤ length new.now) }
-    ensures within { (first ≤ result) × (result ≤ most) }
-    ensures same { (i : ℕ) → result ≤ i → i < most → slice_get old.now i ≡ slice_get new.now i }
-{
-    let mut at = most;
-    while PIECE <= at - first && is_same_part(old, new, at - PIECE, at) {
-        at -= PIECE;
+        let is_piece = PIECE <= most - at && is_same_part(old, new, at, at + PIECE);
+        at += if is_piece { PIECE } else { 1 };
     }
     at
 }
@@ -71,15 +45,15 @@ fn after_last(old: &[u8], new: &[u8], first: usize, most: usize) -> usize
     ensures same { (i : ℕ) → result ≤ i → i < most → slice_get old.now i ≡ slice_get new.now i }
     ensures differs { first < result → slice_get old.now (result - 1) ≢ slice_get new.now (result - 1) }
 {
-    let mut at = after_last_piece(old, new, first, most);
+    let mut at = most;
     while first < at && old[at - 1] == new[at - 1] {
-        at -= 1;
+        let is_piece = PIECE <= at - first && is_same_part(old, new, at - PIECE, at);
+        at -= if is_piece { PIECE } else { 1 };
     }
     at
 }
 
 impl<'a> Patch<'a> {
-    /// Returns the patch that makes the bytes after of those before.
     pub fn between(before: &'a [u8], after: &'a [u8]) -> Patch<'a>
         ensures before { result.before.now ≡ before.now }
         ensures after { result.after.now ≡ after.now }
@@ -95,14 +69,13 @@ impl<'a> Patch<'a> {
             last,
         }
     }
-    /// Returns whether the file grows.
+
     pub fn grows(&self) -> bool
         ensures { result ≡ nat_lt (length self.now.before.now) (length self.now.after.now) }
     {
         self.before.len() < self.after.len()
     }
 
-    /// Returns whether the file gets shorter.
     pub fn shrinks(&self) -> bool
         ensures { result ≡ nat_lt (length self.now.after.now) (length self.now.before.now) }
     {
@@ -117,7 +90,6 @@ impl<'a> Patch<'a> {
         self.first == self.last && !self.shrinks()
     }
 
-    /// Returns the bytes past the old end.
     pub fn end(&self) -> &'a [u8] {
         self.after.get(self.before.len()..).unwrap_or(&[])
     }

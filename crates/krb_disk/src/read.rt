@@ -8,7 +8,7 @@ use crate::looks::{Found, Looks};
 use crate::open_file::System;
 use krb_files::{Cause, LoadFault, Node, WatchedReader, load};
 use std::alloc::Allocator;
-use std::io::{self, Read};
+use std::io::{self, Read, Seek};
 
 /// How many bytes are compared at once.
 const PIECE: usize = 16_384;
@@ -78,7 +78,6 @@ pub struct Parts<'a> {
 }
 
 impl<'a> Parts<'a> {
-    /// Returns the bytes of one part.
     pub fn of(front: &'a [u8]) -> Parts<'a>
         ensures { result.front.now ++ result.end.now ≡ front.now }
     {
@@ -101,13 +100,6 @@ impl<'a> Parts<'a> {
         let end = without_front(self.end, rest)?;
         Some(Parts { front: &[], end })
     }
-
-    // Returns whether there are none.
-    fn is_empty(self) -> bool
-        ensures { IsTrue result → self.entry.front.now ++ self.entry.end.now ≡ [] }
-    {
-        self.front.is_empty() && self.end.is_empty()
-    }
 }
 
 /// Returns whether exactly these bytes are left to read in a file.
@@ -121,7 +113,7 @@ pub fn has_bytes<F: Read>(file: &mut F, bytes: Parts<'_>) -> io::Result<bool>
     for _ in 0..=bytes.front.len().saturating_add(bytes.end.len()) {
         let count = file.read(&mut piece)?;
         if count == 0 {
-            return Ok(left.is_empty());
+            return Ok(left.front.is_empty() && left.end.is_empty());
         }
         match left.without(&piece[..count]) {
             Some(rest) => left = rest,
@@ -129,4 +121,10 @@ pub fn has_bytes<F: Read>(file: &mut F, bytes: Parts<'_>) -> io::Result<bool>
         }
     }
     Ok(false)
+}
+
+/// Returns whether an open file has just these bytes.
+pub fn has_just<F: Read + Seek>(file: &mut F, bytes: &[u8]) -> io::Result<bool> {
+    file.rewind()?;
+    has_bytes(file, Parts::of(bytes))
 }

@@ -88,7 +88,6 @@ fn check<R: System>(
     Err(DiskFault::Failed(Cause::InUse))
 }
 
-// Fills the new file and renames it over the old one.
 fn replace<R: System>(
     calls: &mut Calls<'_, R>,
     new_file: &mut NewFile<String<R::A>, R::File>,

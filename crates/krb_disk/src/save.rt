@@ -27,7 +27,6 @@ fn give_owner<R: System>(
     Ok(())
 }
 
-// Sets the mode due to the new file, and syncs it.
 fn permit_and_sync<R: System>(
     calls: &Calls<'_, R>,
     file: &mut NewFile<String<R::A>, R::File>,

@@ -1,17 +1,16 @@
 //! A snapshot of a held file.
 
-ghost use Rattle.std.specs.Prelude.{◌≡◌, ◌++◌, ◌↔◌, IsTrue, IfOk, IfSome};
+ghost use Rattle.std.specs.Prelude.{◌≡◌, ◌++◌, ◌↔◌, IsTrue, IfOk};
 ghost use Rattle.krb_disk.specs.Content.{WasRead};
 ghost use Rattle.krb_disk.specs.Looks.{IsPlain, IsPlainOrNone, IsUnchanged};
 ghost use Rattle.krb_disk.specs.Stages.{IsLoaded, WasReadAgain, snapshot_file};
 
 use crate::fault::DiskFault;
-use crate::looks::{Found, Looks, Opened, is_unchanged};
+use crate::looks::{Found, Looks, is_unchanged};
 use crate::open_file::System;
 use crate::read::{Parts, has_bytes};
 use std::alloc::Allocator;
-use std::fs::OpenFile;
-use std::io::{self, Read};
+use std::io;
 use wiping::Wiping;
 
 /// A snapshot: what was at a path when it was held or, if it was loaded since, what was loaded. The bytes are cleared
@@ -23,23 +22,10 @@ pub enum Snapshot<A: Allocator> {
     Loaded(Found, Vec<u8, Wiping<A>>),
 }
 
-// Returns whether the old one is a plain file, and the new one is that file, unchanged.
 fn is_same_plain(old: &Found, new: &Found) -> bool
     ensures { IsTrue result ↔ (IsPlain old.now × IsUnchanged old.now new.now) }
 {
     old.is_file() && is_unchanged(old, new)
-}
-
-// Returns whether the open file is that file, unchanged, with these bytes.
-fn has_content<F: OpenFile + Read>(
-    opened: &mut Opened<F>,
-    file: &Found,
-    bytes: Parts<'_>,
-) -> io::Result<bool>
-    ensures { IfOk result (λ has. IsTrue has
-        → IfSome (F.remaining opened.old.file) (λ left. left ≡ bytes.entry.front.now ++ bytes.entry.end.now)) }
-{
-    Ok(is_unchanged(file, &opened.describe()?) && has_bytes(opened, bytes)?)
 }
 
 // Returns whether `path` leads to that file, unchanged, with these bytes.
@@ -52,14 +38,16 @@ fn leads_to<R: System>(
     ensures { IfOk result (λ is. IsTrue is
         → WasRead R.File.remaining (λ left. left ≡ bytes.entry.front.now ++ bytes.entry.end.now)) }
 {
-    match looks.open(path)? {
-        Some(mut opened) => has_content(&mut opened, file, bytes),
-        None => Ok(false),
+    let Some(mut opened) = looks.open(path)? else {
+        return Ok(false);
+    };
+    if !is_unchanged(file, &opened.describe()?) {
+        return Ok(false);
     }
+    has_bytes(&mut opened, bytes)
 }
 
 impl<A: Allocator> Snapshot<A> {
-    /// Returns a snapshot of what was found, without bytes.
     pub fn of(found: Option<Found>) -> Snapshot<A>
         ensures { snapshot_file result ≡ found }
     {
@@ -77,7 +65,6 @@ impl<A: Allocator> Snapshot<A> {
         Ok(Snapshot::Loaded(file, copy))
     }
 
-    /// Returns the file, if there was one.
     pub fn file(&self) -> Option<Found>
         ensures { result ≡ snapshot_file self.now }
     {

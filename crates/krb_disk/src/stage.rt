@@ -83,6 +83,7 @@ pub enum PlaceStage {
 /// After any number of the calls of a save, interleaved with those of other programs, and a crash, the saved name
 /// has the whole new file with the mode due, or what other programs put there. The last call of a save before its rename
 /// compares the old file, after the look at its locks.
+#[tactic(auto, using(crate::proofs::Alone::saves, crate::proofs::Moments::each_moment))]
 pub fn each_moment_is_safe()
     ensures safe { EachMomentIsSafe }
     ensures some { Saves }
@@ -90,6 +91,7 @@ pub fn each_moment_is_safe()
 
 /// After any number of the calls of a save in place, of which any may fail, and a crash, each old byte is there, or the
 /// new end of the file is. A save that is done left the new bytes, and one whose restoring is done the old ones.
+#[tactic(auto, using(crate::proofs::Alone::saves_in_place, crate::proofs::PlaceMoments::each_moment_in_place))]
 pub fn each_moment_in_place_is_safe()
     ensures safe { EachMomentInPlaceIsSafe }
     ensures some { SavesInPlace }

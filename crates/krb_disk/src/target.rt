@@ -32,7 +32,6 @@ pub struct Target<A: Allocator> {
 }
 
 impl<A: Allocator> Target<A> {
-    /// Returns the name that was given, before links were followed.
     pub fn name(&self) -> &str
         ensures { result.now ≡ string_bytes self.now.name }
     {
@@ -65,7 +64,6 @@ impl<A: Allocator> Target<A> {
         Ok(name)
     }
 
-    /// Returns the user who owns the file, if there is one.
     pub fn owner(&self) -> Option<u32> {
         self.old.as_ref().map(|old| old.owner)
     }
@@ -130,7 +128,6 @@ fn follow_links<R: System>(
     Err(DiskFault::Failed(Cause::TooManyLinks))
 }
 
-// Follows one symbolic link.
 fn follow<R: System>(looks: &Looks<'_, R>, path: &mut PathBuf<R::A>) -> Result<(), DiskFault> {
     match looks.follow(path.as_str()) {
         Ok(link) => Ok(path.set_file_name(link.as_str())?),

@@ -2,7 +2,7 @@
 use Rattle.krb_match.proofs.Cited.{◌≡◌, ◌∙◌, sym, ap, refl, arith, ℕ, Bool, true, false, List, [], ◌∷◌, length, ◌==◌, ◌||◌, ◌&&◌, Option, Some, None, option_map, option_or, option_map_or, filter, find, fold, eqb-true, Parts, have_same_name, PlacedEntry, newest_version, asked_version, entry_etype, etypes_of, fits, judged_among, named, no_opener, opener, wanted, AreKeys, AreUnited, first_of, firsts_of, fitting_of, group_in, HasNumber, is_any, is_of, versions, with_entry, Fitting, Keys, TicketEncryption, names_agree, entry_key, name_key, is_in, Kvno, Etype, Opens, hash_of, bytes_eq-Decides, slice_get, and-true}
 use Rattle.krb_match.proofs.Finding.{find_filter, find_three}
 use Rattle.krb_match.proofs.Numbering.{some_named}
-use Rattle.krb_match.proofs.Found.{group_first, group_newest}
+use Rattle.krb_match.proofs.Noting.{group_first, group_newest}
 
 pub filter_filter : {X : Type 0} (t q : X → Bool) (xs : List X) → filter q (filter t xs) ≡ filter (λ x. t x && q x) xs
 filter_filter t q [] = refl

@@ -3,11 +3,9 @@ pub mod Noting
 pub mod Numbering
 pub mod Places
 pub mod Finding
-pub mod Found
 pub mod Judging
 pub mod LawLemmas
 pub mod Adding
-pub mod Positions
 pub mod ForAnswers
 pub mod OnLiterals
 mod Samples

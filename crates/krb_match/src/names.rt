@@ -45,10 +45,7 @@ pub fn key_over<N: Name, A: Allocator + Copy>(
 pub fn text_of(key: &[u8]) -> &[u8]
     ensures { result.now ≡ drop 1 key.now }
 {
-    match key {
-        [_, text @ ..] => text,
-        [] => &[],
-    }
+    key.get(1..).unwrap_or(&[])
 }
 
 fn key_of<N: Name, A: Allocator + Copy>(alloc: A, name: &N) -> Result<Vec<u8, A>, NoMemory>

@@ -14,14 +14,14 @@ use crate::looks::locks::LockKind;
 use crate::looks::{Found, is_same_file};
 use crate::open_file::{HeldFile, System};
 use crate::patch::Patch;
-use crate::read::{Parts, has_bytes};
+use crate::read::has_just;
 use crate::snapshot::Snapshot;
 use crate::stage::PlaceStage;
 use crate::target::Target;
 use krb_files::{Aftermath, Cause, Log};
 use std::alloc::Allocator;
 use std::fs::OpenFile;
-use std::io::{self, ErrorKind, Read, Seek};
+use std::io::{self, ErrorKind};
 
 impl<F> PlaceFile<F> {
     /// Nothing is to be written past the old end.
@@ -47,12 +47,6 @@ impl<F> PlaceFile<F> {
 // Returns whether that is another file than the open one, as far as the system reports.
 fn is_other_file<F: OpenFile>(file: &F, named: &Found) -> bool {
     describe(file).is_ok_and(|opened| !is_same_file(named, &opened))
-}
-
-// Returns whether an open file has just these bytes.
-fn has_just<F: Read + Seek>(file: &mut F, bytes: &[u8]) -> io::Result<bool> {
-    file.rewind()?;
-    has_bytes(file, Parts::of(bytes))
 }
 
 impl<R: System> Calls<'_, R> {
@@ -141,7 +135,6 @@ impl<R: System> Calls<'_, R> {
         }
     }
 
-    /// Writes the new bytes past the old end.
     pub fn extend(&self, old: &mut PlaceFile<R::File>, patch: Patch<'_>) -> io::Result<()>
         requires due { old.old.stage ≡ Same }
         requires grows { length patch.before.now ≤ length patch.after.now }
@@ -157,7 +150,6 @@ impl<R: System> Calls<'_, R> {
         Ok(())
     }
 
-    /// Writes the new bytes over the old ones, from the first that differs to the last.
     pub fn overwrite(&self, old: &mut PlaceFile<R::File>, patch: Patch<'_>) -> io::Result<()>
         requires due { old.old.stage ≡ Ready }
         requires patch { IsPatch patch.before.now patch.after.now patch.first patch.last }

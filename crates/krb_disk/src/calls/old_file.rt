@@ -9,7 +9,7 @@ use crate::looks::device::Listed;
 use crate::looks::listed::find_listed;
 use crate::looks::{Found, is_same_file};
 use crate::open_file::{HeldFile, System};
-use crate::read::{Parts, has_bytes, read_open};
+use crate::read::{has_just, read_open};
 use crate::stage::PlaceStage;
 use krb_files::Cause;
 use std::alloc::Allocator;
@@ -29,12 +29,10 @@ impl<F> OldFile<F> {
         }
     }
 
-    /// Returns how its locks may be listed.
     pub fn listed(&self) -> Listed {
         self.listed
     }
 
-    /// Returns why it cannot be saved in place, if that is known.
     pub fn refused(&self) -> Option<DiskFault> {
         self.refused
     }
@@ -118,10 +116,7 @@ impl<R: System> Calls<'_, R> {
 
     /// Returns whether the old file, which has no name any more, now has other bytes than these.
     pub fn has_changed(&self, old: &mut OldFile<R::File>, bytes: &[u8]) -> bool {
-        if old.file.rewind().is_err() {
-            return false;
-        }
-        matches!(has_bytes(&mut old.file, Parts::of(bytes)), Ok(false))
+        matches!(has_just(&mut old.file, bytes), Ok(false))
     }
 
     // Locks the old file by a handle that writes, for file systems that lock no other.
@@ -152,7 +147,6 @@ impl<R: System> Calls<'_, R> {
         }
     }
 
-    /// Finds out how the locks of the old file may be listed.
     pub fn find_listed(&self, old: &mut OldFile<R::File>) -> Result<(), DiskFault>
         ensures { old.new.is_guarded ≡ old.old.is_guarded }
     {

@@ -37,7 +37,6 @@ impl<R: System> Calls<'_, R> {
         )
     }
 
-    /// Removes the stale file.
     pub fn remove_stale_file(&self, file: &StaleFile<'_, R::File>, _users: Users) -> io::Result<()>
         requires locked { file.now.is_locked ≡ true }
         requires left { IsSomeAnd file.now.found (MayBeLeft _users.owner _users.this) }
@@ -64,7 +63,6 @@ impl<R: System> Calls<'_, R> {
         })
     }
 
-    /// Locks it and returns whether it was free.
     pub fn lock_stale_file(&self, file: &mut StaleFile<'_, R::File>) -> io::Result<bool>
         ensures { IfOk result (λ is. file.new.is_locked ≡ is) }
     {

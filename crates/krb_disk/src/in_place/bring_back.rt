@@ -44,7 +44,6 @@ fn has_no_room(error: &io::Error) -> bool {
     )
 }
 
-// The same, and syncs them.
 fn put_back<R: System>(
     calls: &Calls<'_, R>,
     file: &mut PlaceFile<R::File>,
@@ -59,7 +58,6 @@ fn put_back<R: System>(
     calls.sync_in_place(file)
 }
 
-// Cuts the file to its old length, and syncs it.
 fn trim<R: System>(
     calls: &Calls<'_, R>,
     file: &mut PlaceFile<R::File>,

@@ -28,7 +28,6 @@ pub struct Listed {
 }
 
 impl Listed {
-    /// Nothing is known.
     pub fn unknown() -> Listed
         ensures mount { result.mount ≡ None }
         ensures inode { result.inode ≡ None }
@@ -48,12 +47,6 @@ pub struct Mounted {
     listed: Listed,
 }
 
-// Parses a number in decimal or hexadecimal digits.
-fn parse_number(word: &str, is_decimal: bool) -> Option<u64> {
-    let radix = if is_decimal { 10 } else { 16 };
-    u64::from_str_radix(word, radix).ok()
-}
-
 impl Device {
     /// Splits a device number as Linux encodes it: bits 8 to 19 and 44 to 63 are the major, the others the minor.
     pub fn of(number: u64) -> Device
@@ -68,9 +61,10 @@ impl Device {
     /// Parses a device such as `fe:00`, with decimal or hexadecimal numbers.
     pub fn parse(word: &str, is_decimal: bool) -> Option<Device> {
         let (major, minor) = word.split_once(':')?;
+        let radix = if is_decimal { 10 } else { 16 };
         Some(Device {
-            major: parse_number(major, is_decimal)?,
-            minor: parse_number(minor, is_decimal)?,
+            major: u64::from_str_radix(major, radix).ok()?,
+            minor: u64::from_str_radix(minor, radix).ok()?,
         })
     }
 }
@@ -99,7 +93,6 @@ impl Mounted {
         }
     }
 
-    // Returns whether that device is, or may be, the file's.
     fn is_on(&self, device: Device) -> bool
         ensures { result ≡ is_on_device self.now.device self.now.listed.mount device }
     {
@@ -110,7 +103,6 @@ impl Mounted {
         }
     }
 
-    // Returns whether that inode is the file's.
     fn has_inode(&self, inode: u64) -> bool
         ensures { result ≡ is_inode self.now.inode self.now.listed.inode inode }
     {

@@ -25,7 +25,6 @@ fn device_of(line: &[u8], mount: &str) -> Option<Device> {
     Device::parse(words.next()?, true)
 }
 
-// Returns the device of a mount in the list.
 fn find_device(list: &[u8], mount: &str) -> Option<Device> {
     list.split(|byte| *byte == b'\n')
         .find_map(|line| device_of(line, mount))
@@ -40,7 +39,6 @@ fn mount_device<R: System>(looks: &Looks<'_, R>, file: &[u8]) -> Result<Option<D
     Ok(mounts.and_then(|list| find_device(&list, mount)))
 }
 
-// Returns the inode in the text of an open file.
 fn inode_of(file: &[u8]) -> Option<u64> {
     value_of(file, "ino:")?.parse().ok()
 }

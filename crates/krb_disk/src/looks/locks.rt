@@ -48,7 +48,6 @@ impl LockKind {
     }
 }
 
-// Returns whether a word is, or may be, the place of that file.
 fn is_place(word: &str, file: &Mounted) -> bool {
     Place::parse(word).is_some_and(|place| file.is_at(place))
 }
@@ -61,12 +60,8 @@ fn is_lock(line: &str, kind: LockKind, file: &Mounted) -> bool {
         && words.any(|word| is_place(word, file))
 }
 
-// Returns whether a list has such a line.
 fn has_lock(list: &[u8], kind: LockKind, file: &Mounted) -> bool {
-    match str::from_utf8(list) {
-        Ok(list) => list.lines().any(|line| is_lock(line, kind, file)),
-        Err(_) => false,
-    }
+    str::from_utf8(list).is_ok_and(|list| list.lines().any(|line| is_lock(line, kind, file)))
 }
 
 // Reads the list from scratch into `list`. Returns whether its end, or a read that failed, came before the deadline

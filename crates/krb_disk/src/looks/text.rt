@@ -42,10 +42,7 @@ fn most_bytes(limits: &[u8]) -> Option<u64> {
 
 /// Fails if a file may not be so long: the system would end this process amid the write.
 pub fn check_len<R: System>(looks: &Looks<'_, R>, len: usize) -> Result<(), DiskFault> {
-    let Some(limits) = read_text(looks, LIMITS)? else {
-        return Ok(());
-    };
-    match most_bytes(&limits) {
+    match read_text(looks, LIMITS)?.and_then(|limits| most_bytes(&limits)) {
         Some(most) if most < len as u64 => Err(DiskFault::Failed(Cause::FileTooLarge)),
         _ => Ok(()),
     }

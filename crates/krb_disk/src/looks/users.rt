@@ -24,7 +24,6 @@ impl Users {
         Users { owner, this }
     }
 
-    /// Returns whether a killed run may have left this file.
     pub fn may_have_left(self, found: &Found) -> bool
         ensures { IsTrue result ↔ MayBeLeft self.owner self.this found.now }
     {

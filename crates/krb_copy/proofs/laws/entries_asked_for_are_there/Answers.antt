@@ -1,8 +1,5 @@
-use Rattle.krb_copy.proofs.LawRuns.{has_each, second_does_nothing}
+use Rattle.krb_copy.proofs.LawRuns.{second_does_nothing}
 use Rattle.krb_copy.proofs.laws.entries_asked_for_are_there.Goals as goal
-
-pub returns-clause-there : goal.returns-clause-there
-returns-clause-there c = has_each
 
 pub returns-clause-second : goal.returns-clause-second
 returns-clause-second c = second_does_nothing
