@@ -52,8 +52,7 @@ def quoted(entries: int) -> bytes:
 
 
 def holed(entries: int, roomy: int) -> bytes:
-    """Returns services with a hole after each ten. From the entry ROOMY on one of ten holes has room for
-    an added entry; the others are too small."""
+    """Returns services with a hole after each ten. From ROOMY on one of ten holes has room for an added entry."""
     parts = []
     for number in range(entries):
         parts.append(service(number))

@@ -59,15 +59,6 @@ def beside_c(bench: Bench) -> Iterator[list[str]]:
         yield [name, *(f"{ms:.1f}" for ms in found), f"{found[0] / found[1]:.2f}", f"{counts[0] / counts[1]:.2f}"]
 
 
-def points(bench: Bench) -> Iterator[list[str]]:
-    """Yields the times of one listing by its entries."""
-    fronts = [mit("klist"), "-k"], [bench.krbfile, "klist", "-k"], [bench.built("whole")]
-    for entries in (step * 10**power for power in range(1, 6) for step in (1, 2, 5)):
-        if entries <= SIZES[images.services][bench.quick]:
-            (bench.folder / "k").write_bytes(images.services(entries))
-            yield [f"{entries:,}", *(f"{ms:.3f}" for ms in times(bench, 51, *fronts))]
-
-
 def many(bench: Bench) -> Iterator[list[str]]:
     """Yields the instructions of one listing of many keytabs, and of one of a keytab with all their entries."""
     count, entries = 100 if bench.quick else 1_000, 100

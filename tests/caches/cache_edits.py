@@ -1,8 +1,5 @@
-"""Scripts of `ccedit`: faulty lines, odd values, long ones, large files, and no file. And removals by `ccremove`: words
-that select, as they are typed on a line. Random scripts and removals show the rest.
-
-Places are counted by hand: a ticket has 108 bytes or 106, pa_type's value 136.
-"""
+"""Scripts of `ccedit`: faulty lines, odd values, long ones, large files, and no file. And removals by `ccremove`.
+Places are counted by hand: a ticket has 108 bytes or 106, pa_type's value 136."""
 
 from dataclasses import replace
 from functools import partial
@@ -19,7 +16,6 @@ SET_3 = "config pa_type krbtgt/R@R 3"
 THREE = config(b"pa_type", b"3", b"krbtgt/R@R")
 TIMED = replace(TICKET, starttime=2, renew_till=4)  # a ticket with each of the four times
 
-# Lines, and the fault of each.
 FAULTS = LINE_FAULTS | by_line({
     1: ["add 3 17 0 - b@R", "Config k - v", "config\tk - v", "configk - v"],
     2: ["config", "config ", "config k ", "config k -", "config k a", "config  - v", "config k  v", "config   "],
@@ -76,12 +72,10 @@ CASES = [
     lambda: edit("just room", cache(long_ticket(LIMIT - 294), PA_TYPE), [SET_3],
                  [f"placed {LIMIT - 136}", f"gone {LIMIT - 272}"],
                  cache(long_ticket(LIMIT - 294), PA_TYPE.removed(), THREE)),
-    # Files that are missing. Those that are not a cache are among the messages that are explained.
     *(edit(f"no file, {line!r}", None, line, message(1, "c: no such file")) for line in (b"", b"config k - v\n")),
 ]
 
-# Two that have expired, at 40 and 392, a value at 148, valid ones at 284 and 606, and a removed one at 498. In a header
-# that is rewritten there is the offset only.
+# Tickets over at 40 and 392, a value at 148, valid ones at 284 and 606, and a removed one at 498.
 MANY = cache(TICKET, PA_TYPE, TGT, of_host(), TICKET.removed(), VALID_HOST, fields=FIELDS)
 AT_40, AT_284 = "removed 40 krbtgt/R@R", "removed 284 krbtgt/R@R"
 AT_392, AT_606 = "removed 392 host/a@R", "removed 606 host/a@R"

@@ -62,7 +62,6 @@ CASES = [
          *(line for text in TIMED.values()
            for line in (text + b" " + text + b" krbtgt/R@R", b"    renew until " + text, ADDED["f"])), columns="f"),
     case("the first type of version 3", VERSION_3, TICKET_LINE, ADDED["e"], columns="e"),
-    # How a key, a principal and a value are escaped.
     case("each byte of a value", cache(config(BYTES, BYTES, BYTES)),
          b"config: " + ESCAPED + b"(" + ESCAPED + b") = " + ESCAPED, columns="C"),
     case("a header of 300 fields", cache(TICKET, fields=b"".join(
@@ -119,8 +118,7 @@ TICKETS: list[tuple[str, tuple[Credential | bytes, ...], Outcome]] = [
 CASES += [
     *(ask(name, cache(*those), wanted) for name, those, wanted in TICKETS),
     *(ask("no cache", image, NONE) for image in (b"", TWO, cache(TGT, fields=b"\0\x01\0"), b"\x05\x04\0\0")),
-    # Whether a ticket is left in this many seconds. None is if the clock and these come to more than the greatest time,
-    # or to more than 32 bits.
+    # Whether a ticket is left in so long. None is if the end of that is past the greatest time, or 32 bits.
     *(ask("for a while", cache(TGT), VALID, options) for options in ("-sc", "--for 0 -s", "-s --for=86400 -c")),
     *(ask("for too long", cache(TGT), NONE, options) for options in ("-s --for 4294967295", "--for=3000000000 -s")),
     ask("a ticket that ends too soon", cache(VALID_HOST, replace(OVER, endtime=2**31)), NONE, "-s --for 2147483648"),

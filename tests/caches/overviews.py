@@ -13,7 +13,6 @@ from runs.harness import Line, words_of
 from words.explaining import FAILED, FULL, Explained, no_keytab, over_files
 from words.phrases import BAD_HEADER, BEGINS_AS_KEYTAB, CAUSES, COLLECTION, LARGE, LISTED_AS_KEYTAB
 
-# Keytabs and caches that are listed.
 FILES = {"k": TWO, "j": keytab(B), "d": keytab(HOST, b"\0"), "n": keytab(), "c": USUAL, "e": cache(),
          "o": cache(fields=OFFSET), "a\nb": keytab(B), "FILE:k": keytab(HOST)}
 
@@ -72,7 +71,7 @@ def summary(name: str, members: str, default: str = '"default_principal":"u@R"')
 
 
 THEOREMS = [
-    # Each cache of caches/valid_tickets, and default principals of each length.
+    # Each cache of cache_listings, and default principals of each length.
     overview(("-l", *(f"c{at}" for at in range(len(TICKETS)))),
              *(line_of(f"c{at}", wanted.status == 1) for at, (_, _, wanted) in enumerate(TICKETS)),
              files={f"c{at}": cache(*those) for at, (_, those, _) in enumerate(TICKETS)}),
@@ -89,7 +88,6 @@ CASES = [
     # What is no cache has a message and no line; the heading is there in any case.
     overview("-l no"), overview("-l t DIR:t o no k . x e /dev/null t/x", line_of("t"), line_of("o", True),
                                 line_of("e", True)),
-    # JSON has no heading.
     overview(("-l", "--json", *(f"c{at}" for at in range(len(SUMMARIES)))),
              *(summary(f"c{at}", members) for at, (_, members) in enumerate(SUMMARIES)), front=b"",
              files={f"c{at}": cache(*those) for at, (those, _) in enumerate(SUMMARIES)}),
@@ -112,7 +110,6 @@ CASES = [
     list_all("k c DIR:c", [C], no_keytab(BEGINS_AS_KEYTAB, "k", "cache"), ("DIR:c: no such file", COLLECTION),
              status=1),
     partial(list_all, "-k l k", [K], ("l: file too large", LARGE), status=1, files={"k": TWO, "l": bytes(LIMIT + 1)}),
-    # JSON has a line for each.
     list_all("-k --json n no n", [N_JSON + N_JSON], MISSING, status=1),
     list_all("--json e o e", [E_JSON + O_JSON + E_JSON]),
     # An output that takes nothing ends the run with the first file that would print something.

@@ -43,10 +43,8 @@ class Rounds:
     """Checks in rounds, each made from a number, which take long and report by themselves."""
 
     check_rounds: Callable[[Report, str, range], None]
-    # A long run takes its count divided by this.
-    share: int
-    # How many numbers a short run takes.
-    usual: int = 0
+    share: int  # a long run takes its count divided by this
+    usual: int = 0  # how many numbers a short run takes
     name: str = ""
 
     def check(self, report: Report, program: str) -> None:
@@ -66,24 +64,10 @@ MOST = 4_000  # the most bytes that a row is about
 SHARE = 50  # a long run takes its count divided by this
 DAYS = 16  # how many days there are: the date of a day is found by counting, which takes as long as many rows
 
-# A function whose proof reads the modules.
-SOURCE = """//! Runs as theorems.
-
-ghost use Rattle.std.specs.Prelude.{{◌≡◌}};
-
-#[tactic(auto, using({lemmas}))]
-pub fn computes() -> u8
-    ensures {{ result ≡ 1 }}
-{{
-    1
-}}
-"""
-
 REFUSED = re.compile(r"\./proofs/\w+\.antt:\S+ error: `row_(\d+)`: (.*)")  # a refusal of a row, with its first line
 FAILED = (3, 4)  # the statuses of runs in which a call failed
-# The options without a computed run, and why.
-NEVER_COMPUTED = {f"{command} --in-place": "the same is saved, and each such run is compared with the one without it"
-                  for command in ("ktedit", "ktremove", "ktcopy", "ktutil", "ccedit", "ccremove")}
+# The options without a computed run: the same is saved in place, and each such run is compared with the other.
+NEVER_COMPUTED = {f"{it} --in-place" for it in ("ktedit", "ktremove", "ktcopy", "ktutil", "ccedit", "ccremove")}
 
 
 def days_of(case: Case) -> set[int]:
@@ -130,7 +114,7 @@ def modules_of(rows: dict[int, tuple[Case, str]]) -> list[Module]:
 def write(folder: str, modules: list[Module]) -> None:
     """Writes a crate of some modules."""
     lemmas = [f"crate::proofs::{it.name}::row_{it.name[4:]}" for it in modules if it.name != "Times"]
-    texts = {"src/lib.rt": SOURCE.format(lemmas=", ".join(lemmas)),
+    texts = {"src/lib.rt": compiler.SOURCE.format(lemmas=", ".join(lemmas)),
              "proofs/Lib.antt": "".join(f"mod {it.name}\n" for it in modules),
              **{f"proofs/{it.name}.antt": it.written() for it in modules}}
     for path, text in texts.items():
@@ -153,19 +137,14 @@ def refusals(rows: dict[int, tuple[Case, str]], are_sources: bool) -> dict[int, 
     return found
 
 
-def check_options(report: Report, cases: Iterable[Case]) -> None:
-    """Reports the options of help without a computed run, unless it is said why."""
-    computed = {option for case in cases for option in Words(case).spelled()}
-    known = {f"{command} --{name}" for command, spelling in spellings().items() for name in spelling.options}
-    report.check("computed: each option", [f"{option} is in no run" for option in sorted(
-        known - computed - {*NEVER_COMPUTED})])
-
-
 def compare(report: Report, seen: list[Case], are_sources: bool, jobs: int, is_whole: bool = False) -> None:
     """Compares runs with the definitions, some at a time. Whole tests have a run of each option."""
     rows = rows_of(seen)
     if is_whole:
-        check_options(report, (case for case, _ in rows.values()))
+        computed = {option for case, _ in rows.values() for option in Words(case).spelled()}
+        known = {f"{command} --{name}" for command, spelling in spellings().items() for name in spelling.options}
+        report.check("computed: each option", [f"{option} is in no run" for option in sorted(
+            known - computed - NEVER_COMPUTED)])
     print(f"{len(rows)} runs are compared with the definitions", flush=True)
     parts = [dict(part) for each in range(jobs) if (part := list(rows.items())[each::jobs])]
     with ThreadPoolExecutor(jobs) as pool:
@@ -177,8 +156,7 @@ def compare(report: Report, seen: list[Case], are_sources: bool, jobs: int, is_w
 
 @dataclass(frozen=True)
 class Topic:
-    """Random runs of one topic: its title, the runs that a random source makes in turn, and how many numbers a short
-    run takes."""
+    """Random runs of one topic: its title, the runs by a random source, and how many numbers a short run takes."""
 
     title: str
     runs: Callable[[Random], Iterator[Undisturbed]]

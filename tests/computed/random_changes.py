@@ -199,8 +199,7 @@ def few_entries(random: Random, v1_big: bool) -> bytes:
 
 
 def copy(random: Random) -> Iterator[Undisturbed]:
-    """Yields a copy, the same again over what it left, a copy back, and comparisons before and after it. A file may be
-    missing, empty or no keytab."""
+    """Yields a copy, the same over what it left, a copy back, and comparisons before and after it."""
     v1_big = random.random() < 0.3
     source, target = (random.choice([None, b"", b"\5\3"]) if random.random() < 0.12 else few_entries(random, v1_big)
                       for _ in range(2))

@@ -1,5 +1,4 @@
-"""Random runs that read: listings, views, look-ups, checks, and questions for valid tickets, over random and damaged
-files."""
+"""Random runs that read: listings, views, look-ups, checks and questions, over random and damaged files."""
 
 from collections.abc import Iterator
 from dataclasses import replace
@@ -26,7 +25,6 @@ MATCHED = Choices(names=(*[(b"a", b"R")] * 6, (b"A", b"R"), (b"a", b"S"), (b"krb
 TICKET_KVNOS = (None, 0, 1, 1, 1, 44, 255, 257, 300, 513, 2**32 - 1, -212)
 WANTED = ("a@R", r"\a@R", "a/b@R", "@R", r"a\/b@R", r"é\t@R", "c@R")
 
-# The names of servers, some of them printed alike.
 SERVERS = [*[Name((b"krbtgt", b"R"))] * 3, *[Name((b"host", b"a"), b"")] * 3, Name((b"host", b"a")),
            Name((b"host", b"a"), name_type=3), Name((b"host/a",)), Name(()), Name((b"",)), Name((b"a\n@",), b"R@S"),
            Name((CONFIG_FIRST, b"k"), CONFIG_REALM), Name((CONFIG_FIRST,), CONFIG_REALM),

@@ -1,5 +1,4 @@
-"""Theorems and modules of antt, as text in the layout of `rt fmt`; and runs as terms of the definitions in
-crates/samples/proofs/Runs.antt."""
+"""Theorems and modules of antt, as `rt fmt` has them; and runs as terms of crates/samples/proofs/Runs.antt."""
 
 import datetime
 import re
@@ -70,8 +69,7 @@ def theorem(comment: str, name: str, left: str, right: str, proof: str = "refl")
 
 
 def proof_of(printed: bytes, front: str, rest: str) -> str:
-    """Returns the proof of what is printed, with what is before and after it. It uses the theorem of each time,
-    since days are too many to count again."""
+    """Returns the proof of what is printed, with what is before and after it, by the theorem of each time."""
     parts = [f"time-{seconds(it)} i" if at % 2 else text(it) for at, it in enumerate(TIME.split(printed))]
     return f"λ i. {front}{' ++ ('.join(parts)}{')' * (len(parts) - 1)}{rest}" if len(parts) > 1 else "refl"
 
@@ -111,10 +109,9 @@ class Module:
         words = set(SYMBOL.findall(re.sub(r'"(?:[^"\\]|\\.)*"|^--.*$', "", "\n".join(self.items), flags=re.M)))
         words |= {f"◌{it}◌" for it in words} | ({"if◌then◌else◌"} if "if" in words else set())
         found = {source: [it for it in those if it in words] for source, those in IMPORTS.items()}
-        if self.name != "Times":
-            found[f"Rattle.{self.crate}.proofs.Times"] = sorted(it for it in words if it.startswith("time-"))
-        if self.name != "Files":
-            found[f"Rattle.{self.crate}.proofs.Files"] = sorted(it for it in words if it.startswith("file-"))
+        for name, front in (("Times", "time-"), ("Files", "file-")):
+            if name != self.name:
+                found[f"Rattle.{self.crate}.proofs.{name}"] = sorted(it for it in words if it.startswith(front))
         return {source: those for source, those in found.items() if those}
 
     def written(self) -> str:
@@ -128,8 +125,7 @@ WORD = re.compile(r"Word::(\w+)\(\s*\"([\w-]+)\"(?:,\s*'(\w)')?|(?:^ *|, )([A-Z]
 CONSTANT = re.compile(r"^pub const (\w+): Word = (.*?);$", re.M | re.S)
 COMMAND = re.compile(r'^pub const \w+: CommandWords = .*?^    name: "(\w+)".*?^    words: &\[(.*?)\],$', re.M | re.S)
 
-# What a definition is given before the files, which have an input after them, if that is not only whether messages are
-# explained; klist's is another by its other options.
+# What a definition is given before the files, if that is not only whether messages are explained.
 GIVEN = {**dict.fromkeys(("ktcheck", "show"), ("explains", "mode", "clock")),
          **dict.fromkeys(("ktremove", "ccremove", "ktutil", "klist_overview", "klist_silent"), ("explains", "clock"))}
 READING = ("ktedit", "ccedit", "ktutil", "hold")
@@ -145,12 +141,11 @@ class NotComputed(Exception):
 
 @dataclass(frozen=True)
 class Spelling:
-    """How a command's line is spelled: its options, by their long names, each with its letter, or none, and whether it
-    has a value; the names of its operands, and whether the last one is for all that follow."""
+    """How a line is spelled: its options by their long names, with letter and whether they have a value; operands."""
 
     options: dict[str, tuple[str, bool]]
     operands: tuple[str, ...]
-    is_repeated: bool
+    is_repeated: bool  # whether the last operand is for all that follow
 
     @property
     def words(self) -> set[str]:

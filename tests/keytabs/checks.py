@@ -82,8 +82,7 @@ MIXED = [(replace(B, components=(name,), version8=kvno, version32=kvno, enctype=
     (b"e", 3, 23, "weak", {}), (b"e", 3, 17, "", {"name_type": 3}), (b"f", 255, 17, "old", {}),
     (b"f", 1, 23, "weak", {"name_type": 3}), (b"b", 3, 1, "weak", {"name_type": 3, "key": bytes(8)}))]
 
-# The keytab as the tools of a domain leave it: three versions of six names, each with keys of five types, but one name
-# with rc4 keys alone.
+# A domain's keytab: three versions of six names, each with keys of five types, but one with rc4 keys alone.
 REALM = b"AD.TEST"
 NAMES = [(b"WEB$",), (b"host", b"WEB"), (b"host", b"web.ad.test"), (b"RestrictedKrbHost", b"WEB"),
          (b"RestrictedKrbHost", b"web.ad.test"), (b"HTTP", b"web.ad.test")]

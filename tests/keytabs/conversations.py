@@ -1,6 +1,5 @@
-"""Runs with somebody at the other end: ktutil handles each line before the next one arrives, also if it is stopped and
-continued meanwhile. At a terminal it has prompts, and ktedit and ccedit say that they read a script. What is printed
-where an output is a terminal: what could change the terminal is escaped, a byte at a time."""
+"""Runs with somebody at the other end: ktutil handles each line before the next one arrives. At a terminal it has
+prompts, and what is printed there escapes, a byte at a time, what could change the terminal."""
 
 import os
 import pty
@@ -53,8 +52,7 @@ def heard_from(stream, count: int, seconds: float = SECONDS) -> bytes:
 
 def faults_of_talk(program: str, opened: Callable[[], tuple[int, int]], lines: list[tuple[bytes, bytes]], last: bytes,
                    wanted: Outcome, is_stopped: bool) -> list[str]:
-    """Returns the faults of a run whose input is left open: what comes of each line, or nothing for a while, before the
-    next is sent, and its end by some last bytes, or by the end of the input."""
+    """Returns the faults of a run by what comes of each line, before the next is sent, and by how it ends."""
     theirs, ours = opened()
     found: list[str] = []
     with folder_of({"k": TWO}) as folder, piped(program, ("ktutil",), folder, stdin=theirs, bufsize=0) as talk:
@@ -85,9 +83,7 @@ def faults_of_talk(program: str, opened: Callable[[], tuple[int, int]], lines: l
 LINES = [(b"l\n", NO_SLOTS), (b"rkt k\nl\n", LISTED), (b"frob\n", b"krbfile: line 4: fault 1\n"), (b"cle", b""),
          (b"ar\nl\n", NO_SLOTS)]
 
-# How the input is open, the lines, the last bytes, how the run ends, and whether it is stopped before each line. A last
-# line is handled if the input ends within it. A terminal gives whole lines, and its end-of-file character ends the
-# input.
+# How the input is open, the lines, the last bytes, how the run ends, and whether it is stopped before each line.
 TALKS = {"up to quit": (os.pipe, LINES, b"q\n", Outcome(1), False),
          "up to the end of the input": (os.pipe, [*LINES, (b"l", b"")], b"", Outcome(1, NO_SLOTS), False),
          "at a terminal": (terminal, LINES[:2], b"\x04", Outcome(0), False),

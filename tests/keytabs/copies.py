@@ -1,7 +1,4 @@
-"""Copies by `ktcopy` from the keytab `k` to `t`. Places are counted by hand, or from the lengths of the records before.
-
-A record of host/a@R takes 51 bytes with its length, one of b@R 45.
-"""
+"""Copies by `ktcopy` from the keytab `k` to `t`. A record of host/a@R takes 51 bytes with its length, one of b@R 45."""
 
 from dataclasses import replace
 
@@ -18,10 +15,7 @@ LONG = Entry((b"",) * 65_535)  # a name whose count of components version 1 cann
 
 def copy(name: str, options: str, source: bytes | None, target: bytes | None, wanted: Outcome | list[str],
          after: bytes | None = None) -> Case:
-    """Returns a run with these options over the keytabs, or over none.
-
-    Wanted are lines that it prints, or an outcome. With no `after` the files stay as they are.
-    """
+    """Returns a run over the keytabs, or over none. With no `after` the files stay as they are."""
     files = {file: image for file, image in (("k", source), ("t", target)) if image is not None}
     words = ("ktcopy", *words_of(options), "k", "t")
     return Case(f"{name}: {options}", words, wanted if isinstance(wanted, Outcome) else printed(*wanted), files,
@@ -65,14 +59,12 @@ CASES = [
     *(Case(f"{source} to {target}", ("ktcopy", source, target), wanted, {"k": TWO, "t": keytab(B)})
       for source, target, wanted in (("no", ".", message(1, "no: no such file")),
                                      ("k", "no/t", message(3, "no/t: cannot write")))),
-    # One keytab for both.
     *(Case("one keytab for both", ("ktcopy", "--replace", "k", "./k"), wanted, {"k": image}) for image, wanted in (
         (keytab(B, OTHER, B), Outcome(0)), (TWO[:-1], DAMAGED))),
     # An addition that is refused, and one after a clash, which is not reported.
     copy("a name that is too long", "", keytab(HOST, LONG, B), old(), message(1, "t: refused 2")),
     copy("a clash, then a name that is too long", "-n", keytab(HOST, B, LONG, FIVE), old(OTHER),
          printed(f"copied 43 {X}", f"clash 53 2 {Y}", status=1)),
-    # Keytabs that are as large as they may be, with a hole or without one.
     lambda: copy("into a hole up to the limit", "", keytab(HOST), keytab(OTHER, ROOM), [f"copied 47 {X}"], full()),
     lambda: copy("no room for a longer key", "--replace", keytab(replace(B, key=bytes(17))), full(),
                  message(1, "t: refused 3")),
@@ -120,7 +112,6 @@ CASES += [
       for kvno, those in ((it, [replace(each, version8=it % 256, version32=it) for each in (AES256, FIVE)])
                           for it in (0, 255, 300, 2**32 - 1))),
     copy("no entry of the old version", "-p b@R -k 9 --as-kvno 3", TWO, None, NOT_FOUND),
-    # Weak types.
     copy("weak types", "-e weak -e 18", keytab(B, RC4, HOST), None, ["copied 2 kvno 3 etype 23 b@R"], keytab(RC4)),
     diff("-e Weak", keytab(B, RC4), keytab(replace(RC4, enctype=3), HOST), "- 47 kvno 3 etype 23 b@R",
          "+ 2 kvno 3 etype 3 b@R"),
@@ -148,8 +139,7 @@ def of_long_name() -> Case:
 
 
 def of_many() -> list[Case]:
-    """Returns copies between keytabs in which many entries meet many, as they end where there is room: each pair of
-    them would take too long."""
+    """Returns copies in which many entries meet many, as they end with room: each pair would take too long."""
     names = keytab(*(Entry((b"x" * 200, b"%05d" % number)) for number in range(60_000)))
     many, one = keytab(*(replace(LEAST, key=b"%07d" % number) for number in range(400_000))), keytab(LEAST)
     return [

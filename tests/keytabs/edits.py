@@ -149,10 +149,7 @@ ETYPE = " (aes128-cts-hmac-sha1-96)"
 
 def lines(name: str, given: list[str] | bytes, printed: list[str], *output: str, files: dict[str, bytes] | None = None,
           after: dict[str, bytes] | None = None, status: int | None = None) -> Case:
-    """Returns a run over an input, with its output, its messages, and the files that it adds or changes.
-
-    The status is 0, or 1 if there are messages.
-    """
+    """Returns a run over an input, its output and messages, and the files that it adds or changes."""
     wanted = Outcome(int(bool(output)) if status is None else status, text(printed),
                      text(f"krbfile: {one}" for one in output))
     before = files or {}
@@ -160,7 +157,6 @@ def lines(name: str, given: list[str] | bytes, printed: list[str], *output: str,
                 given if isinstance(given, bytes) else text(given))
 
 
-# Lines with a password in place of a key, and their faults.
 PASSWORD = "addent -password -p a@R -k 1 -e 17"
 PASSWORDS = by_line({
     2: [PASSWORD, "add_entry -key -p b@R -k 3 -e 17 -password", "addent -password", "addent x -password"],
@@ -206,7 +202,6 @@ CASES += [
     lines("lines that are passed over count", ["", " ", "frob", "", "l 1"], [], "line 3: fault 1", "line 5: fault 2"),
     lines("after too long a name nothing is saved",
           [ADDENT, KEY, f"addent -key -p {'x' * 65_536}@R -k 3 -e 17", KEY, "wkt k"], [], "line 5: refused 2"),
-    # Files that are not read or written.
     lines("messages in the order of the lines", ["frob", "rkt a\\b", "delent 1", "rkt .", "rkt d", "l"], HEADING,
           "line 1: fault 1", "a\\b: no such file", "line 3: fault 7", ".: cannot read", "line 5: refused 1",
           files={"d": DAMAGED}, status=3),

@@ -25,7 +25,6 @@ KEY_SIZES = {number: size for number, (size, _) in ETYPES.items()}
 NAMES = {number: names.split()[0].encode() for number, (_, names) in ETYPES.items()}
 BY_NAME = {name: number for number, (_, names) in ETYPES.items() for name in names.split()}
 
-# The columns of an entry of TWO.
 TIME = b"2023-11-14T22:13:20Z "
 ETYPE = b" (aes128-cts-hmac-sha1-96)"
 HOST_KEY = b" (0x000102030405060708090a0b0c0d0e0f)"
@@ -103,15 +102,13 @@ CASES = [
     case("version 1 in the other order", old(HOST), b"fault 2 at 2", letters=" --v1-big"),
     *(over(f"no keytab: {image}", "klist -k k", image, message(1, f"k: not a keytab ({number})"))
       for image, number in ((b"\5", 1), (b"\4\2", 2), (b"\5\3", 2))),
-    # All enctypes, with the names of those that have one.
     lambda: case("enctypes", keytab(*(Entry((b"a",), enctype=each, key=b"") for each in range(65_536))),
                  *(b"   3 a@R (%s)" % NAMES.get(each, b"etype %d" % each) for each in range(65_536)), letters="e"),
     case("times", keytab(*(Entry((b"a",), timestamp=second) for second in KNOWN_TIMES)),
          *(b"   3 " + text + b" a@R" for text in KNOWN_TIMES.values()), letters="t"),
 ]
 
-# Bytes that are escaped, bytes that are not, and bytes that are no UTF-8: one alone, an overlong form, a surrogate,
-# what is past the last letter, and a cut letter.
+# Bytes that are escaped or not; and no UTF-8: a byte, an overlong form, a surrogate, too great, and cut.
 TEXTS = (b"", bytes(range(32)), b'"\\/\x7f', b"\xc2\x80\xc2\x9f\xc2\xa0\xc3\x80", "é€\U0001f600".encode())
 NO_UTF_8 = tuple(map(bytes.fromhex, ("61ff", "c080", "eda080", "f4908080", "e282")))
 

@@ -54,7 +54,6 @@ OTHER = replace(HOST, key=b"other")
 DOUBLES = HOST, B, OTHER, replace(HOST, timestamp=9), B, OTHER, FIVE, FIVE
 TYPES = tuple(Entry(enctype=etype) for etype in (0, 1, 17, 4, 5, 16, 23, 26, 24, 25, 7))
 
-# Words that select, as they are typed on a line.
 CASES = [
     remove("all old ones", "-k old", THOSE, 0),
     remove("one by the name of its enctype", r"-k 5 -p b@R -e 17 -p \host/a@R -e aes256-cts-hmac-sha1-96", THOSE, 1, 2),

@@ -1,12 +1,8 @@
 """Images of keytabs and of credential caches, made from the fields of the formats.
 
-A keytab is the byte 5, a version (1 or 2), and then records, each a signed 32-bit length and that
-many bytes. A negative length is a hole, and the length 0 ends the file. A record begins with an
-entry. Numbers are big-endian in version 2, and in the byte order of the writer in version 1.
-
-A cache is the byte 5, a version, in version 4 a header, the default principal, and then credentials
-up to the end of the file: nothing counts or frames them. All numbers are big-endian. A header is a
-16-bit length and fields, each a 16-bit tag, a 16-bit length and a value. Tickets in DER (RFC 4120 5.3) are last.
+A keytab has records, each a signed length and bytes: a negative length is a hole, and 0 ends the file. Numbers are
+big-endian, but in version 1 as its writer has them. A cache has a header in version 4, the default principal, and
+credentials, which nothing counts or frames. Tickets in DER (RFC 4120 5.3) are last.
 """
 from __future__ import annotations
 
@@ -37,8 +33,7 @@ class Entry:
     enctype: int = 17
     key: bytes = bytes(range(16))
     version32: int | None = 3
-    # The count of components that is written, if not the true one.
-    count: int | None = None
+    count: int | None = None  # the count of components that is written, if not the true one
 
     def spelled(self, version: int = 2, order: str = BIG) -> bytes:
         """Returns the entry's bytes. Version 1 counts the realm as a component, and has no name type."""
@@ -241,8 +236,7 @@ def own_server(name: Name, name_type: bytes | None = None) -> bytes:
 
 def ticket(data: bytes, fields: bytes = TICKET_FIELDS, at: int = -1,
            odd: Callable[[int, bytes], bytes] = element) -> bytes:
-    """Returns a ticket of those fields. Of the four elements around those of its EncryptedData that number `at` from
-    within is made by `odd`."""
+    """Returns a ticket of those fields. Of the four elements around them number `at` from within is by `odd`."""
     for level, (tag, front) in enumerate(((0x30, b""), (0xA3, b""), (0x30, fields), (0x61, b""))):
         data = (odd if level == at else element)(tag, front + data)
     return data

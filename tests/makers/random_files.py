@@ -11,7 +11,7 @@ from makers.images import (BIG, CONFIG_FIRST, CONFIG_REALM, END, FLAGS, LITTLE, 
                            encrypted, header_field, hole, integer, keytab, number, offset, own_server, record, ticket)
 from peers import corpus
 
-KEYTABS = corpus.images("keytab")  # keytabs of other programs
+KEYTABS = [image for _, image in corpus.files("keytab")]  # keytabs of other programs
 # Lengths that run past the end, end the file, or are cut off.
 LENGTHS = [END, b"\0", b"\0\0\0\1", b"\x7f\xff\xff\xff", b"\x80\0\0\0", b"\xff\xff\xff\xff"]
 
@@ -22,8 +22,7 @@ def random_bytes(random: Random, most: int) -> bytes:
 
 
 def renumbered(random: Random, image: bytes) -> bytes:
-    """Returns the file with what may be a count or a length, since it is small, set to 0, a little off, negative, far
-    too great, or up to the end."""
+    """Returns the file with a small number, maybe a count or a length, a little off, or far too great."""
     width, order = random.choice([2, 4, 4]), random.choice([BIG, BIG, LITTLE])
     high = slice(0, width // 2) if order == BIG else slice(width // 2, width)
     places = [at for at in range(len(image) - width + 1) if not any(image[at:at + width][high])]
@@ -37,8 +36,7 @@ def renumbered(random: Random, image: bytes) -> bytes:
 
 
 def recut(random: Random, image: bytes, other: bytes) -> bytes:
-    """Returns the file with a bit or a byte changed, some bytes removed, repeated or overwritten, another file's rest,
-    cut short, sometimes to nothing, or with bytes inserted, perhaps at the end."""
+    """Returns the file with bits or bytes changed, removed, repeated, overwritten, cut off, or put in."""
     at, begin, place = (random.randrange(bound) for bound in (len(image), len(other), len(image) + 1))
     to = min(len(image), at + random.choice([1, 1, 2, 4, 20, 100]))
     byte = random.choice([*b"\0\1\x7f\x80\xff", random.randrange(256), *[image[at] ^ 1 << random.randrange(8)] * 6])
@@ -139,7 +137,7 @@ class Choices:
         return keytab(*parts, version=version), is_big
 
 
-CACHES = corpus.images("ccache")  # caches of other programs
+CACHES = [image for _, image in corpus.files("ccache")]  # caches of other programs
 KEYS = [b"k", b"l", b"pa_type", b"\\x00", b"\x00", b"-"]  # few, so that many values replace others
 PRINCIPALS = [b"-", b"-", b"krbtgt/R@R", b"a@R", b"\\a@R", b"\xff@"]  # few, likewise
 ETYPES = (17, 18, 19, 20, 23, 25, 26, 16, 0, -1, 65_535, 65_536, -2**31, 2**31 - 1)  # of tickets in DER

@@ -37,7 +37,6 @@ def bad(words: str | Line, env: dict[str, str | bytes], phrase: str) -> Explaine
 
 
 CASES = [
-    # The value of the variable that is read is not UTF-8.
     *(bad(each.words(None), {each.kind.value: value}, f"{each.kind.value} is not UTF-8")
       for each in DEFAULTS for value in (b"\xff", b"FILE:c\xc3")),
     # What is wrong with a line comes first, and other commands want the file.
@@ -51,8 +50,7 @@ CASES = [
 @contextmanager
 def other_system(report: Report, program: str, keytab: bytes | None, status: bytes = b"",
                  mounts: dict[str, str] | None = None) -> Iterator[Callable[[Explained], None]]:
-    """Yields what checks the end of a line beside a default keytab or none, another text about the run, and
-    other mounts."""
+    """Yields what checks a line beside a default keytab or none, another text about the run, and other mounts."""
     with folder_of({"c": CACHE, BESIDE: TWO, "status": status}) as folder:
         os.mkdir(os.path.join(folder, "etc"))
         if keytab is not None:
@@ -69,8 +67,7 @@ def other_system(report: Report, program: str, keytab: bytes | None, status: byt
 
 
 def check_defaults(report: Report, program: str) -> None:
-    """Checks each command that may leave out its file: the default keytab, and the default cache, whose name has the
-    number of the real user."""
+    """Checks each command that may leave out its file. The default cache has the number of the real user."""
     rows = [(KEYTAB, USER, each, None) for each in (TWO, NEITHER, None)]
     rows += [(FileName(OWN.format(user), source=DEFAULT), user, None, image) for user, image in (
         (USER, CACHE), (USER, NEITHER), (2**32 - 2, None))]
@@ -103,8 +100,7 @@ def check_unknown(report: Report, program: str) -> None:
 
 
 def check_users(report: Report, program: str) -> None:
-    """Checks which cache is missing, by what the system reports of users: of a real user beside root, of another user,
-    and of root for another user."""
+    """Checks which cache is missing: of a real user beside root, of another user, and of root for another user."""
     ways = {(): os.getuid()}
     if os.geteuid() == 0 and shutil.which("setpriv"):
         ways |= {("setpriv", f"--ruid={NOBODY}"): NOBODY, ("setpriv", f"--euid={NOBODY}"): 0,

@@ -1,8 +1,5 @@
 """`ktmatch` over one cache and over several: what is said of a ticket by its own bytes and by the entries of a keytab,
-which tickets are looked at, what is said where none is, and what is explained once. Random runs show the rest.
-
-An entry of host/a@R takes 51 bytes with its length. Places of tickets are counted from their lengths.
-"""
+which tickets are looked at, and what is explained once. An entry of host/a@R takes 51 bytes with its length."""
 
 import json
 import re
@@ -91,7 +88,6 @@ def judged(kvno: int | None, etype: int, verdict: str) -> tuple[Credential, str]
 
 OPENS, NO_C = said("opens", 3, 17, "at 2"), said("name", 3, 17, name="c@R")
 REFERRED = name_of("host/a@")  # a server as a referral has it
-# Other names than host/a@R, by how they print.
 NAMES = {it: name_of(it) for it in ("host/a@S", "host/A@R", "host/a/@R", "host@R")} | {
     r"host\/a@R": Name((b"host/a",)), "@R": Name(())}
 # Tickets whose name cannot be read: empty fields, another type of text, and bytes after the components.
@@ -147,8 +143,7 @@ JSON = {"keytab": "k", "file": "c", "tickets": [
 IN_JSON = cache(ticket_of(Name((b"\xff",))), ticket_of(A, -5, None), ticket_of(A, 17, WRAPPED), ticket_of(A),
                 replace(TICKET, server=A), ticket_of(A, 18, is_skey=1), b"\0")
 
-# A keytab, and caches: `o` opens, `m` has each line, `d` ends in a fault, as `n` does, which has no ticket, `e` has one
-# that is not looked at.
+# A keytab, and caches: `o` opens, `m` has each line, `d` and `n` end in a fault, `e` is not looked at.
 FILES = {
     "k": TWO, "o": cache(ticket_of(A)), "e": cache(ticket_of(KRBTGT)), "n": cache(b"\0"), "x": NEITHER,
     "m": cache(ticket_of(A, is_skey=1), replace(TICKET, server=A), ticket_of(name_of("Host/a@R")),
@@ -208,7 +203,6 @@ THEOREMS = [
     match_all("-p c@R k no o", [], MISSING, none(command=NOT_ASKED)), match_all("k no x", [], MISSING, NO_CACHE),
     match_all("k e n x", labelled(n=N), *fault("n", 22), NO_CACHE, none()),
     match_all("k e o e", labelled(o=OPENED), status=0), match_all("k n o", labelled(n=N, o=OPENED), *fault("n", 22)),
-    # JSON: an object a cache.
     match_all("--json k e", objects(e=(1, None, None)), none("e")),
     match_all("--json k n", objects(n=(1, None, 22)), *fault("n", 22), none("n")),
     match_all("--json k e o no", [*objects(e=(0, None, None), o=(0, O_OBJECT, None)),

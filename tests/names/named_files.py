@@ -1,9 +1,5 @@
 """Which file a word names, with a type or without, or the variable of its kind, in a table, and what each command does
-over a file of any name: the same as over another name, or it says why there is no such file.
-
-Every command is also given a file of neither kind. No other variable is looked at. default_files has empty values and
-those that are not UTF-8.
-"""
+over a file of any name: the same as over another name, or it says why there is no such file, or of neither kind."""
 
 import json
 import os
@@ -34,8 +30,7 @@ class Kind(Enum):
 
 @dataclass(frozen=True)
 class FileName:
-    """A name as it is loaded and printed. `other` is why it is not read if its type is another, `source` what is said
-    of a default."""
+    """A name as it is loaded. `other` is why it is not read if its type is another, `source` that of a default."""
 
     text: str
     other: str = ""
@@ -104,8 +99,7 @@ class Command:
             return run(PROGRAM[0], self.words(NAME), folder, self.run.stdin).out, files_in(folder)
 
     def ended(self, name: FileName, place: bytes | None) -> tuple[int, Output]:
-        """Returns the status over what is under a name, and the message, if there is one. Some commands make a missing
-        file, but none without a name."""
+        """Returns the status over what is under a name, and the message, if any. Some commands make a missing file."""
         own, (kind, number, why) = name.text, NEITHERS[self.kinds]
         ends = {NEITHER: (1, (f"{own}: not a {kind} ({number})", why))}
         if name.other or place is None and NAME not in self.usual(False)[1]:
@@ -135,8 +129,7 @@ class Command:
         return Explained(title, words, lines, files, self.run.stdin, status, out, after, {"env": env}, for_owner)
 
 
-# Runs over the file that they read, that they change, that they make another of, and over ktmatch's keytab. Lines of
-# ktutil name it otherwise.
+# Runs over the file that they read, change or copy, and over ktmatch's keytab, but not of ktutil.
 COMMANDS = (*(Command(each, file_of(each)) for each in READS if each.words[0] not in SAVING),
             *(Command(each, file_of(each)) for each in CHANGES if each.words[0] != "ktutil"),
             *(Command(each, name) for each in MAKES for name in each.files),
@@ -152,8 +145,7 @@ IGNORED = {"KRB5_CLIENT_KTNAME": b"\xff", **{kind.value: b"\xff" for kind in Kin
 
 
 def decoys(word: str, name: str) -> dict[str, bytes]:
-    """Returns files that are no keytabs and no caches, under names that are read if a type that goes is not taken off,
-    or one that stays is."""
+    """Returns files of neither kind under the names that are read if too much or too little is taken off."""
     rest = word.partition(":")[2]
     names = {word, rest, rest.partition(":")[2]} - {name, name.removeprefix("./"), ""}
     return {each: NEITHER for each in names if "/" not in each}

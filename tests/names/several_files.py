@@ -61,8 +61,7 @@ def labelled(**those: list[str]) -> list[str]:
 
 
 def words(file: str, *findings: str, lacks_strong: bool = False) -> Output:
-    """Returns the words of findings, and the hints for the file, whose weak entries have enctype 23: no hint removes
-    them where a name has no others."""
+    """Returns the words of findings, and the hints; no hint removes weak keys from a name that has no others."""
     hints = (hint.replace("ETYPE..", "arcfour-hmac") for finding, hint in HINTS.items()
              if finding in findings and (finding, lacks_strong) != ("weak", True))
     lines = (*(f"{finding}: {FINDINGS[finding]}" for finding in findings), *hints)
@@ -169,8 +168,7 @@ NAMED, OTHER_NAMED = ("host/a@R: no such file", TO_NAME), ("KCM:u@R: no such fil
 
 def remove(line: str | Line, out: list[str], *output: tuple[str, str], left: dict[str, bytes] | Iterable[str] = (),
            **more) -> Explained:
-    """Returns a run over some of the files, its lines and messages, and the files that it changes: those of GONE of
-    these names, or others."""
+    """Returns a run over some of the files, its lines and messages, and the files that it changes, as in GONE."""
     changed = left if isinstance(left, dict) else {name: GONE[name] for name in left}
     return over_files("", line, out, *output, files=REMOVED_FROM, after=REMOVED_FROM | changed, **more)
 

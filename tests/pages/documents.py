@@ -1,13 +1,7 @@
-"""What the documents name exists: the files of their links, headings, files and tests, and what is between
-backticks. Each piece of code on a page is in the sources. The map has each crate in its place, and some recipe of
-CONTRIBUTING names each file that has its example.
-
-The worked examples of the formats, the commands and the library are each shown somewhere. If what shows one goes, or
-gets another name, another place shows it, and is named here.
-
-The page of each crate, `crates/NAME/CALLING.md`, has the calls of the sources. Each that may be refused, or runs a
-command, has a row, and the rows name clauses and tests that exist.
-"""
+"""What the documents name exists: the files of their links, headings, files and tests, and what is between backticks.
+Each piece of code on a page is in the sources. The map has each crate in its place. The worked examples are each shown
+somewhere: if what shows one goes, or gets another name, another place is named here. The page of each crate,
+`crates/NAME/CALLING.md`, has the calls of the sources, and a row, with clauses and tests, for each that is refused."""
 
 import glob
 import os
@@ -90,8 +84,7 @@ def sources(*patterns: str) -> str:
 
 
 def check_map(report: Report) -> None:
-    """Checks that the first paragraph's crates are the rows of the map, in order, and that it names all other crates
-    and libraries; the program uses each library that it has."""
+    """Checks that the first crates are the rows of the map, that it names all, and that the program uses each."""
     uses = re.compile(r"^(\w+)(?: staticlib)?:(.*)$", re.MULTILINE)
     below = {crate: those.split() for crate, those in uses.findall(read("crates.txt"))}
     own = [crate for crate, _ in uses.findall(read("crates.txt").split("\n\n")[0])]

@@ -75,8 +75,7 @@ def checkout(program: str) -> Iterator[str]:
 
 
 def check_session(report: Report, top: str, session: tuple[str, bytes]) -> None:
-    """Runs a session in a checkout, after README's lines that prepare one. A fault, a finding or a difference has the
-    status 1."""
+    """Runs a session in a checkout. A fault, a finding or a difference has the status 1."""
     command, wanted = session
     name = f"session: {command.splitlines()[0]}"
     if lack := lacks(command):

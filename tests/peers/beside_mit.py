@@ -1,15 +1,8 @@
 """MIT's klist and ktutil, and the form in which their listings and ours are compared: that of ours.
 
-The text beside a file, `NAME.txt`, is what MIT's klist printed of it. Both say the same in other words:
-
-- The titles and the dashes below them are our own. A time is written `2026-11-22T07:05:26Z` for `11/22/26 07:05:26`.
-- A key version is unsigned: MIT's -1 is 4294967295. One space is before a key, not two.
-- `DEPRECATED:` is left out, and DES has no name: `des-cbc-crc` is `etype 1`, `des-cbc-md5` is `etype 3`.
-- What MIT puts on one or two lines below a ticket, after a tab, has a line for each, after four spaces.
-- krbfile has a line for the flags of a ticket that has none.
-- MIT's `Etype (skey, tkt)` is that of the session key and that of the ticket. krbfile prints the first.
-  MIT prints neither if it cannot decode the ticket.
-- The value of a configuration entry is not broken into lines, and a byte that does not print is `\\x0a`, not `\\012`.
+The text beside a file, `NAME.txt`, is what MIT's klist printed of it. How both differ is in docs/PEERS.md. Besides, the
+titles, and the dashes below them, are our own, and the value of a configuration entry is not broken into lines: there a
+byte that does not print is `\\x0a`, not `\\012`.
 """
 
 import json
@@ -183,11 +176,7 @@ class Mit:
         return [as_ours(line) for line in entries_in(mit_klist(self.folder, "-k", "-t", "-K", "-e", name))]
 
     def ktutil(self, *requests: str) -> list[bytes]:
-        """Returns what ktutil prints after each request. A line that a request asks for follows it.
-
-        Each request is written only after a prompt. Nothing else may be in the pipe until then:
-        a request that reads a line takes all that is there.
-        """
+        """Returns what ktutil prints after each request. Each waits for a prompt: one that reads a line takes all."""
         with piped("ktutil", (), self.folder, env=self.env, bufsize=0, stderr=subprocess.STDOUT) as started:
             answers = [self.answer(started)]
             for request in requests:

@@ -1,7 +1,4 @@
-"""Caches that MIT's kinit and kvno fill in a realm made here, as MIT's klist and ours list them.
-
-The KDC listens on an address of this machine only, while the test runs.
-"""
+"""Caches that MIT's kinit and kvno fill in a realm made here, as MIT's klist and ours list them."""
 
 import os
 import re
@@ -191,8 +188,7 @@ def check_collection(report: Report, program: str, realm_of: Realm) -> None:
 
 
 def faults_of_random(program: str, random: Random) -> list[str]:
-    """Returns how listings differ of a random cache whose tickets all belong to its default principal, none a
-    configuration entry; of enctypes only those of the tickets that both can decode."""
+    """Returns how listings differ of a random cache of its default principal's tickets, none a configuration entry."""
     default = random_name(random, False)
     names = (random_name(random, False) for _ in range(random.randrange(8)))
     those = [replace(random_credential(random), client=default, server=name) for name in names]
@@ -204,8 +200,7 @@ def faults_of_random(program: str, random: Random) -> list[str]:
 
 def in_realm(what: str, *checks: Callable[[Report, str, Realm], None], more: tuple[str, ...] = (),
              tools: tuple[str, ...] = ()) -> Check:
-    """Returns a check that makes those in a realm with its principals and more of them, if MIT's programs are there,
-    and more of these."""
+    """Returns a check that makes those in a realm with more principals, if MIT's programs are there."""
     def check(report: Report, program: str) -> None:
         try:
             with realm(more) as made:

@@ -34,11 +34,6 @@ def files(kind: str) -> list[tuple[str, bytes]]:
     return [(name, Path(folder, name).read_bytes()) for name in names]
 
 
-def images(kind: str) -> list[bytes]:
-    """Returns the bytes of each file of a kind."""
-    return [image for _, image in files(kind)]
-
-
 @cache
 def writers() -> dict[str, str]:
     """Returns who wrote each file."""

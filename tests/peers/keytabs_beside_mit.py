@@ -1,6 +1,5 @@
 """Keytabs that ours changed, and entries that ktcheck calls hidden, beside MIT's programs; saves in place beside those,
-which lock a file to read it, and to add an entry to it; and what README's first lines say of them, and that ours do
-otherwise."""
+which lock a file to read it, and to add to it; and what README's first lines say of them and of ours."""
 
 import re
 import sys
@@ -29,8 +28,7 @@ HOLES = keytab(60, HOST, 41, B)
 OLD = old(HOST, Entry((b"a",), b"R", version32=None))
 A, MARKED = Entry((b"a",)), keytab(HOST, END, b"\xff" * 20)
 
-# Scripts over a keytab, or over none, and copies into a keytab, or into none, with how many entries there are then.
-# MIT's programs read a file of version 1 in the byte order of the machine.
+# Scripts and copies, with how many entries there are then. MIT's read version 1 in the machine's byte order.
 CHANGES = [
     *((undisturbed("ktedit k", text(script), name=name, k=image), count) for name, image, script, count in (
         ("a new file", None, [ADD_HOST, *EACH_ETYPE], 9), ("holes that are filled", HOLES, [ADD_B, ADD_C, ADD_HOST], 5),
@@ -49,18 +47,15 @@ CHANGES = [
         ("to version 1", "ktcopy k t", TWO, old(A), 3))),
 ]
 
-# Lines of MIT's ktutil and of ours.
 KEY = bytes(range(32)).hex()
 LINES = ["rkt j", "rkt k", "delent 1", f"addent -key -p host/z@R -k 300 -e aes256-cts-hmac-sha1-96\n{KEY}", "wkt n",
          "wkt k", "clear", "wkt n"]
 NARROW = Entry((b"a", b"b"), version32=None)
-# Each name of an encryption type, in either case.
 BY_NAMES = [*(f"addent -key -p a@R -k {at} -e {word}\n{KEY[:2 * KEY_SIZES[number]]}"
               for at, (name, number) in enumerate(BY_NAME.items(), 1) if "-" in name for word in (name, name.upper())),
             "wkt n"]
 
-# Runs at the time of the entries, and lines of MIT's ktutil that leave the same files: it sets the time of all that it
-# writes. The keytabs of the copies have no entry in common.
+# Runs at the time of the entries, which MIT's ktutil sets in all, and its lines that leave the same files.
 NOW = HOST.timestamp
 SAME = [
     *((undisturbed("ktcopy k t", clock=NOW, k=source, t=target), ["rkt k", "wkt t"]) for source, target in (
@@ -107,8 +102,7 @@ def check_same(report: Report, _: str) -> None:
 
 
 def faults_of_hidden(program: str, image: bytes, place: int | None, options: tuple[str, ...]) -> list[str]:
-    """Returns the faults of a check of a keytab whose second entry of three, at that place, may be hidden: MIT's klist
-    lists those before, and all once it is removed. A script that adds one has a message if MIT's would not list it."""
+    """Returns the faults of a check and a script over a keytab whose second entry of three may be hidden."""
     edited = undisturbed((EXPLAIN, "ktedit", *options, "k"), ADD_C.encode(), k=image).wanted.err
     warned = [int(at) for at in re.findall(rb"MIT's programs see no entry from (\d+) on\n", edited)]
     with folder_of({"k": image}) as folder:
@@ -174,8 +168,7 @@ def rotated_entry(random: Random) -> Entry:
 
 
 def faults_of_removal(program: str, realm: Realm, random: Random) -> list[str]:
-    """Returns what differs from kadmin.local's in a removal of a name's old entries from a random keytab, which reports
-    each entry that goes."""
+    """Returns what differs from kadmin.local's in a removal of a name's old entries from a random keytab."""
     those = [rotated_entry(random) for _ in range(random.randrange(1, 9))]
     image, name = keytab(*those), b"/".join(random.choice(those).components) + b"@R"
     with folder_of({"k": image}) as folder:
@@ -186,8 +179,8 @@ def faults_of_removal(program: str, realm: Realm, random: Random) -> list[str]:
         got = run(program, ("ktremove", "-p", name, "-k", "old", "k"), folder)
         ours, left = files_in(folder)["k"], len(entries(program, folder, "k"))
     found = [] if theirs == ours else [f"MIT's is {theirs.hex()} of {image.hex()}, not {ours.hex()}"]
-    has_told = got.status == 0 and got.out.count(b"removed ") + left == len(those)
-    return found + ([] if has_told else [f"{got} of {len(those)} entries, {left} are left"])
+    is_said = got.status == 0 and got.out.count(b"removed ") + left == len(those)
+    return found + ([] if is_said else [f"{got} of {len(those)} entries, {left} are left"])
 
 
 def check_old(report: Report, program: str, made: Realm) -> None:
@@ -231,8 +224,7 @@ ROWS = (
 
 def ended_beside(program: str, options: tuple[str, ...], folder: str, mits: tuple[str, Undisturbed, Halt],
                  seconds: float) -> tuple[Outcome, bool, Outcome]:
-    """Returns how a run ends that begins while one of MIT's programs is halted, whether it waits for that many seconds,
-    and how MIT's program ends."""
+    """Returns how a run ends beside a halted program of MIT's, whether it waits so long, and how MIT's ends."""
     started: list[tuple[Future[Outcome], bool]] = []
     with ThreadPoolExecutor(1) as pool:
 

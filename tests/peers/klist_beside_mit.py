@@ -1,12 +1,6 @@
-"""MIT's klist beside ours. `klist -s` of both over one cache and at one time: they agree, but for the differences named
-here.
-
-Caches of other programs that ccedit and ccremove change: MIT's klist shows what it showed before without what a run
-reports as removed, and then the values that it set. Where the file was saved, ours shows the same.
-
-`klist` and `klist -k` without a file: MIT's takes the file that ours does, of the names of named_files and by default,
-but for the differences named here.
-"""
+"""MIT's klist beside ours, which agree but for the differences named here: `klist -s` over one cache and at one time;
+caches of other programs that ccedit and ccremove change, where MIT's shows what a run left and set; and `klist` and
+`klist -k` without a file, of the names of named_files and by default."""
 
 import os
 import re
@@ -27,13 +21,10 @@ from runs.undisturbed import Undisturbed, undisturbed
 
 END, LATER = TICKET.endtime, TICKET.endtime + 1_000  # the end of the usual ticket, and another
 
-# The servers of the random caches, two of ticket-granting tickets.
 SERVERS = (Name((b"krbtgt", b"R")), Name((b"krbtgt", b"S")), Name((b"krbtgt", b"R"), b"S"), Name((b"host", b"a")),
            Name((CONFIG_FIRST, b"k"), CONFIG_REALM), Name((CONFIG_FIRST, b"k", b"p"), CONFIG_REALM))
 
 # Caches where MIT's klist differs until their end: whether it finds a ticket to go on with, and ours does.
-# It reads version 2, refuses an offset that has not eight bytes, takes any number of components after the
-# first for those of a configuration entry, and a length that is greater than the file for damage of all of it.
 DIFFERENT: dict[str, tuple[bytes, bool, bool]] = {
     "version 2": (dict(files("ccache"))["kinit-v2"], True, False),
     "a header with a short offset": (cache(TICKET, fields=header_field(1, b"abc")), False, True),
@@ -50,8 +41,7 @@ def by_mit(under: Preloaded, folder: str, now: int) -> Outcome:
 
 
 def faults_of(under: Preloaded, image: bytes, ahead: int = 0) -> list[str]:
-    """Returns where the programs differ around each end of a ticket, and around the usual one's; ours may be asked that
-    many seconds ahead."""
+    """Returns where the programs differ around each end of a ticket; ours may be asked some seconds ahead."""
     found = []
     asked = undisturbed(f"klist -s --for {ahead} c" if ahead else "klist -s c")
     with folder_of({"c": image}) as folder:
@@ -76,7 +66,7 @@ def check_different(report: Report, under: Preloaded) -> None:
 
 
 def check_same(report: Report, under: Preloaded) -> None:
-    """Checks the files of other programs, and the tickets of caches/valid_tickets, in each version by turns."""
+    """Checks the files of other programs, and the tickets of cache_listings, in each version by turns."""
     made = [(name, cache(*those, version=3 + at % 2)) for at, (name, those, _) in enumerate(TICKETS)
             if not name.startswith("a name of a configuration entry")]
     cut = [(f"{name}, cut short", image[:-1]) for name, image in made]
@@ -121,8 +111,7 @@ def edited(image: bytes, script: bytes, name: str) -> Undisturbed:
 
 
 def changes(image: bytes, said: dict) -> Iterator[tuple[Undisturbed, list[str]]]:
-    """Yields changes of a cache, each with what it sets: a removal at each place, values set, also again in one that
-    is rewritten, and a removal of each service's tickets."""
+    """Yields changes of a cache, each with what it sets: removals at each place and by service, and values."""
     rewritten = edited(image, b"rewrite\n", "rewrite")
     yield rewritten, []
     yield edited(image, SETTING, "values"), SET
@@ -163,8 +152,7 @@ LISTED = re.compile(rb"(?:Ticket cache|Keytab name): FILE:(.*)\n")
 # What MIT's reads of a configuration file, and ours does not.
 CONFIGURATION = b"[libdefaults]\ndefault_ccache_name = FILE:c\ndefault_keytab_name = FILE:k\n"
 
-# Values in which MIT's sees no type but that of files: without a colon, with one letter before it, and of a keytab a
-# path. Ours sees a type only in two letters or more.
+# Values in which MIT's sees no type but that of files; ours sees a type only in two letters or more.
 OF_FILES = {Kind.KEYTAB: re.compile(r"[^:]*$|[A-Za-z]:|FILE:|WRFILE:|/"),
             Kind.CACHE: re.compile(r"[^:]*$|[A-Za-z]:|FILE:")}
 
@@ -186,8 +174,7 @@ def taken(got: Outcome) -> tuple[bytes | None, bool]:
 
 
 def check_value(kind: Kind, word: str, report: Report, program: str) -> None:
-    """Checks a value, where no file is there, and where all are that a program might take. Where MIT's refuses a
-    type, ours takes no part of the value off, but `DIR::`, behind which MIT's wants a folder."""
+    """Checks a value, with no file and with all that a program might take. MIT's may refuse its type."""
     names = {os.path.normpath(each) for each in (word, word.partition(":")[2], "k") if each}
     for files in ({}, {each: IMAGES[kind] for each in names if "/" not in each}):
         with folder_of(files) as folder:
@@ -201,8 +188,7 @@ def check_value(kind: Kind, word: str, report: Report, program: str) -> None:
 
 
 def check_defaults(report: Report, program: str) -> None:
-    """Checks the defaults of this user, and the other differences: an empty value, a configuration file, what is no
-    text, and a keytab in memory."""
+    """Checks the defaults of this user: an empty value, a configuration file, no text, a keytab in memory."""
     with folder_of({"k": TWO, "c": IMAGES[Kind.CACHE], "\udcff": TWO, "conf": CONFIGURATION}) as folder:
         for kind, own, configured in ((Kind.KEYTAB, b"/etc/krb5.keytab", b"k"),
                                       (Kind.CACHE, b"/tmp/krb5cc_%d" % os.getuid(), b"c")):

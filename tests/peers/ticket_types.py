@@ -1,5 +1,4 @@
-"""The enctype, the kvno and the server that JSON has of a ticket by its own bytes. Expected values are written by hand,
-by X.690, and MIT's klist shows the enctype too."""
+"""The enctype, the kvno and the server that JSON has of a ticket by its own bytes. Rows are by hand, from X.690."""
 
 from collections.abc import Callable
 from dataclasses import replace
@@ -30,7 +29,6 @@ NUMBERS: dict[tuple[str, str | None], Encryption] = {
 
 DATA, LONG = (encrypted(b"\x12", b"\2", bytes(size)) for size in (20, 70_000))
 
-# How an element is spelled otherwise.
 ODD: dict[str, Callable[[int, bytes], bytes]] = {
     "a longer length": lambda tag, content: element(tag, content, True),
     "an indefinite length": lambda tag, content: bytes([tag, 128]) + content + b"\0\0",
@@ -86,8 +84,7 @@ SERVERS: dict[str, tuple[bytes, str | None]] = {
 
 
 def check(report: Report, program: str) -> None:
-    """Compares what JSON has of each ticket, and the enctypes with those that MIT's klist shows of them and of the
-    files in `corpus`, but for the one of version 2."""
+    """Compares what JSON has of each ticket, and the enctypes, also of the corpus, with those that MIT's shows."""
     is_mit = are_there(report, "enctypes of tickets beside MIT's klist", "klist")
     with folder_of({"c": cache(*(replace(TICKET, ticket=ticket(DATA, it)) for it, _ in SERVERS.values()))}) as folder:
         for (name, (_, server)), one in zip(SERVERS.items(), as_json(program, folder, "c")["tickets"], strict=True):

@@ -1,13 +1,6 @@
-"""Tickets of MIT's kinit and kvno, in the realm and with the KDC of caches_beside_mit. Caches of them that ccedit and
-ccremove change: MIT's programs can still use them. And `ktmatch` beside kvno, which opens tickets with the keys of a
-keytab: tickets of before and after changes of keys, and keytabs of some of these keys.
-
-kvno tries each key of a ticket's type, whatever its name and version: no two keys here have the same numbers, in
-eight bits neither.
-
-Storms over one cache: runs of ccedit and of ccremove beside kvno, which stores tickets in it. What our runs report as
-saved is there afterwards, the cache is whole, and MIT's klist lists it as ours does.
-"""
+"""Tickets of MIT's kinit and kvno, in the realm of caches_beside_mit. Caches of them that ccedit and ccremove change
+can still be used. `ktmatch` beside kvno, over keytabs of some keys from before and after changes: kvno tries each key
+of a ticket's type, so no two here have the same numbers. Storms over one cache beside kvno, which stores in it too."""
 
 import json
 import re
@@ -21,7 +14,7 @@ from makers.images import Entry, keytab
 from peers.beside_mit import SEEDS, as_json, differences_of
 from peers.caches_beside_mit import ETYPES, HOST, REALM, USER, Realm, in_realm
 from runs.harness import Outcome, Report, differences, every, files_in, folder_of, message, printed, run
-from system.changes_at_once import Run, rage
+from system.changes_at_once import Run, names_of, rage
 from system.saving import write
 
 TGT = "krbtgt/CACHE.TEST@CACHE.TEST"
@@ -46,8 +39,7 @@ class Filled:
         self.found += [] if is_so else [what]
 
     def change(self, line: str, wanted: Outcome | None = None, script: str = "") -> None:
-        """Makes a run of ours over the cache, which has to end so, or to succeed, and compares the listings of MIT's
-        klist and ours afterwards."""
+        """Makes a run of ours, which has to end so, or to succeed, and compares MIT's listing and ours then."""
         got = run(self.program, (*line.split(), "c"), self.folder, script.encode())
         self.found += differences(wanted or replace(got, status=0, err=b""), got)
         self.found += differences_of(self.program, self.folder, "-f", "-e", "-C")
@@ -122,8 +114,7 @@ VERSIONS = {"svc/h": (1, 2, 255, 300, 65_000), "svc/H": (2, 259, 1_001), HOST: (
 
 
 def tickets(made: Realm, folder: str) -> list[tuple[str, str]]:
-    """Gives each service its keys in turn, of two types, the first of which is that of tickets, and adds them to the
-    keytab `all`. Returns a cache with a ticket of each version, and its service."""
+    """Adds keys of each service in turn to the keytab `all`. Returns a cache of a ticket under each, and its name."""
     found = []
     for at, (name, kvno) in enumerate((name, kvno) for name, versions in VERSIONS.items() for kvno in versions):
         etypes = ",".join(f"{each}:normal" for each in (ETYPES * 3)[at:at + 2])
@@ -175,22 +166,12 @@ def runs_of(program: str) -> list[Run]:
     """Returns the runs of a storm. Ours may be refused, but only because of what MIT's do meanwhile."""
     runs = []
     for number, (going, coming) in enumerate(zip(GOING, COMING, strict=True)):
-        name = f"{going}@CACHE.TEST"
         runs += [
-            Run(name, (program, "ccremove", "-p", name, "c"), removes=True),
+            Run(going, (program, "ccremove", "-p", f"{going}@CACHE.TEST", "c"), removes=True),
             Run(f"a{number}", (program, "ccedit", "c"), f"config a{number} - v\n"),
-            Run(f"{coming}@CACHE.TEST", ("kvno", coming), is_mits=True),
+            Run(coming, ("kvno", coming), is_mits=True),
         ]
     return runs
-
-
-def faults_of(runs: list[Run], listed: dict) -> list[str]:
-    """Returns the faults of the runs and of the cache that they left, as our klist lists it: services and keys."""
-    if not listed or listed["fault"]:
-        return [f"the cache is not whole: {listed}"]
-    names = {ticket["server"] for ticket in listed["tickets"]} | {value["key"] for value in listed["config"]}
-    failed = [f"{each.name}: {each.output!r}" for each in runs if each.is_mits and each.started.returncode]
-    return failed + [fault for each in runs for fault in each.faults(names, True)]
 
 
 def storm(program: str, made: Realm, seed: int) -> list[str]:
@@ -202,7 +183,10 @@ def storm(program: str, made: Realm, seed: int) -> list[str]:
         for each in runs:
             each.start(folder, made.surroundings())
         rage(runs, Random(seed), WITHIN)
-        found = faults_of(runs, as_json(program, folder, "c"))
+        names = names_of("-c", files_in(folder)["c"])
+        found = ["the cache is not whole"] * (names is None)
+        found += [f"{each.name}: {each.output!r}" for each in runs if each.is_mits and each.started.returncode]
+        found += [fault for each in runs for fault in each.faults(names or (), True)]
         found += differences_of(program, folder, "-f", "-C")
         got = run(program, ("ccremove", "-p", "krbtgt/CACHE.TEST@CACHE.TEST", "c"), folder)
         left = sorted(files_in(folder))

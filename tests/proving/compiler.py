@@ -1,10 +1,6 @@
-"""The compiler's own command, for the crates of the repository.
-
-It uses the libraries in `crates/*/out/rlib`. Those that `rt ci` left there have no stamp, so the
-commands of `rt` would prove each of them again.
-
-What is built of the crates may be older than what it was built of, and another clone may have built the same.
-"""
+"""The compiler's own command, for the crates of the repository. Libraries in `crates/*/out/rlib` that `rt ci` left have
+no stamp, so that `rt` would prove them again. What is built of a crate may be older than its sources, and another clone
+may have built the same."""
 
 import os
 import re
@@ -18,6 +14,19 @@ from pathlib import Path
 from proving.edited import PARTS, TOP
 
 MEMORY = 3_500_000  # the most memory that a check takes, in KB
+
+# The source of a crate: a function whose proof reads theorems.
+SOURCE = """//! Theorems.
+
+ghost use Rattle.std.specs.Prelude.{{◌≡◌}};
+
+#[tactic(auto, using({lemmas}))]
+pub fn computes() -> u8
+    ensures {{ result ≡ 1 }}
+{{
+    1
+}}
+"""
 
 # How a check names an open goal: in a function that returns a value, and in one that does not.
 OPEN_GOAL = re.compile(r"note: \S+: it is not proved that .*?\(`([\w-]+)`\)")
@@ -92,8 +101,7 @@ def root_of(crate: str) -> str:
 
 
 def libraries(crate: str, as_sources: Collection[str]) -> list[str]:
-    """Returns the options that name the libraries that a crate uses: some as sources, where nothing need be proved,
-    the others as they were proved."""
+    """Returns the options that name the libraries of a crate: some as sources, the others as they were proved."""
     uses = {it: ["std", *crates()[it][1]] for it in [crate, *sorted(as_sources)]}
     named = dict.fromkeys(each for those in uses.values() for each in those if each not in as_sources)
     proved = ["std", *sorted(below(crate).difference(as_sources))]
@@ -116,10 +124,7 @@ def command(verb: str, crate: str, jobs: int, name: str = "", as_sources: Collec
 
 
 def clauses_of(output: str) -> dict[str, list[str]]:
-    """Returns the open clauses of each function that is not proved, and the refused lemmas of each module of proofs.
-
-    The goals of a function come before its verdict, or in it.
-    """
+    """Returns the open clauses of functions, which come before or in a verdict, and the refused lemmas of modules."""
     found, before, by_hand = {}, [], set()
     for line in output.splitlines():
         if lemma := BAD_LEMMA.match(line):
@@ -212,8 +217,7 @@ def copy_built(there: str, path: str) -> None:
 
 
 def take(top: str) -> tuple[list[str], list[str]]:
-    """Copies what another clone built of the same sources, the lowest crates first, unless this clone has it. Returns
-    the crates of which something was copied, and those that differ there, or use such a crate."""
+    """Copies what another clone built of the same sources. Returns the crates of it, and those that differ there."""
     found, other = [], {it for it in crates() if not is_same(it, top)}
     for crate in sorted(crates(), key=lambda it: len(below(it))):
         if other.isdisjoint({crate, *below(crate)}):

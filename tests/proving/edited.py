@@ -1,18 +1,12 @@
 """Reads the edits of `crates/NAME/wrong`, and applies one to a copy of its crate.
 
-An edit has lines `file: PATH`, and after each any number of pairs `old: TEXT` and `new: TEXT`. The old
-text occurs once in that file, and later pairs apply to what the earlier ones made. `refused: FUNCTION
-CLAUSE` names a function to check, by its path below the crate, and its clause that is then not proved, as
-`wrong CRATE NAME` prints it: an `ensures` of the function, or a `requires` of a call in it. A loop
-invariant is not a clause: it only serves the proof. A function that is proved by hand has no unproved
-clause: `refused: FUNCTION proof` means that its proof is refused. `only: FUNCTION` names what is checked
-in place of the functions that refuse.
-
-An edit of a definition makes the function use a lemma of the crate's proofs, and `refused: MODULE LEMMA`
-names those that are refused then.
+An edit has lines `file: PATH`, and after each any number of pairs `old: TEXT`, which occurs once, and `new: TEXT`.
+`refused: FUNCTION CLAUSE` names a function to check, by its path below the crate, and its clause that is then not
+proved, as `wrong CRATE NAME` prints it: an `ensures`, a `requires` of a call in it, or the `proof` of one that is
+proved by hand. `only: FUNCTION` names what is checked in place of these. An edit of a definition makes the function
+use a lemma of the crate's proofs, and `refused: MODULE LEMMA` names those that are refused then.
 """
 
-import glob
 import os
 import re
 import shutil
@@ -58,17 +52,6 @@ class Edit:
         return f"{self.crate}/{self.name}"
 
 
-def paths() -> list[str]:
-    """Returns the path of each edit."""
-    return sorted(glob.glob(os.path.join(TOP, "crates", "*", "wrong", "*.edit")))
-
-
-def crate_and_name(path: str) -> tuple[str, str]:
-    """Returns the crate and the name of the edit in a file."""
-    crate = os.path.basename(os.path.dirname(os.path.dirname(path)))
-    return crate, os.path.basename(path).removesuffix(".edit")
-
-
 def pairs_of(lines: list[tuple[str, str]]) -> tuple[Pair, ...]:
     """Returns the pairs in lines, each a word and a text."""
     found, last = [], {"file": "", "old": ""}
@@ -83,9 +66,9 @@ def pairs_of(lines: list[tuple[str, str]]) -> tuple[Pair, ...]:
     return tuple(found)
 
 
-def read(path: str) -> Edit:
+def read(path: Path) -> Edit:
     """Returns the edit in a file."""
-    split = [line.partition(":") for line in Path(path).read_text("utf-8").split("\n")]
+    split = [line.partition(":") for line in path.read_text("utf-8").split("\n")]
     lines = [(word, text.removeprefix(" ")) for word, _, text in split]
     refused = [CLAUSE.fullmatch(text) for word, text in lines if word == "refused"]
     if not refused or None in refused:
@@ -93,7 +76,7 @@ def read(path: str) -> Edit:
     only = [text for word, text in lines if word == "only"] or [it[1] for it in refused]
     if not all(it and FUNCTION.fullmatch(it) for it in only):
         raise BadEdit("it needs lines `only: FUNCTION`")
-    return Edit(*crate_and_name(path), pairs_of(lines), tuple(only),
+    return Edit(path.parts[-3], path.stem, pairs_of(lines), tuple(only),
                 tuple((it[1] or it[3], it[2] or it[4]) for it in refused))
 
 

@@ -1,10 +1,6 @@
 """The cards, as lines of text, with samples of definitions: equations that the prover proves, and runs that tests
-compare with the definitions.
-
-There is a card of each case: few lines of few columns, and those to be complete are. What computes on these is below
-samples. What a contract says does not change with the constants of the code: no definition names one, and clauses only
-sizes.
-"""
+compare with the definitions. Each case has one, of few lines and columns. What a contract says does not change with the
+constants of the code: no definition names one, and clauses only sizes."""
 
 import re
 import textwrap
@@ -216,6 +212,23 @@ def card_of_frame(view: View, contracts: list[Contract], frame: set[Place], equa
 
 
 MAKER = f"{TOP}/tests/definitions"
+MOST = 12  # what so many of the functions have is the frame
+
+
+def all_cards() -> dict[str, list[str]]:
+    """Returns the lines of the cards, by their files: one of each case, and that of the frame."""
+    sources, crates = all_sources(), run_functions()
+    every = View(sources)
+    functions = [Contract(every, crate, function) for function, crate in crates.items()]
+    having = Counter(place for contract in functions for place in contract.order)
+    frame = {place for place, count in having.items() if count >= MOST}
+    cases = {name: Contract(View(sources, case), crates[case.function], case.function) for name, case in CARDS.items()}
+    if unmet := [f"{name}: no definition asks for {it}" for name, each in cases.items() for it in each.view.unmet()]:
+        raise SystemExit("\n".join(unmet))
+    values = equations(sources)
+    cards = {file_of(name): card_of(name, each, frame, values) for name, each in cases.items()}
+    return {**cards, "frame": card_of_frame(every, functions, frame, values)}
+
 
 SIZES = {"FULL", "BATCH"}  # the constants that clauses may name: what is gathered before a write, and quoted at once
 CONSTANT = re.compile(r"^ *(?:pub(?:\(\w+\))? )?(?:const|static) (\w\w+):.* =", re.MULTILINE)
@@ -261,7 +274,7 @@ def check(report: Report, program: str) -> None:
     """Makes the cards. The program is not run."""
     report.check("the constants of the code that contracts name", sorted(constants_named() ^ SIZES))
     with folder_of({}) as folder:
-        made = run(MAKER, ("--cards", folder), folder)
+        made = run(MAKER, (folder,), folder)
         cards = {name: text.decode() for name, text in files_in(folder).items()}
     wrong = {*map(file_of, CARDS)} ^ {*cards} - {"frame"}
     report.check("what is computed", not_computed())

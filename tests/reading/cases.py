@@ -40,8 +40,7 @@ class Definition:
 
 @dataclass(eq=False)
 class Sources:
-    """The definitions of a repository, what each file imports, the names that it has for other files, and the source
-    from outside of what it defines."""
+    """The definitions of a repository, by what each file imports, and their sources from outside."""
 
     definitions: dict[Place, Definition] = field(default_factory=dict)
     imported: dict[str, dict[str, Place]] = field(default_factory=dict)
@@ -139,8 +138,7 @@ TOKEN = re.compile(r'"[^"\n]*"|[()\[\]{},;]|\b(?:if|else)\b')
 
 @dataclass(frozen=True)
 class Case:
-    """A case: its function, the constructors of types, between blanks, and the flags; and of the command lines that
-    are its samples the command, the options that they have, and those that they lack."""
+    """A case: its function, constructors and flags; and the command and options of the lines that are its samples."""
 
     function: str
     only: dict[str, str]

@@ -15,8 +15,7 @@ SCRIPT = b"add 3 17 1700000000 000102030405060708090a0b0c0d0e0f host/a@R\n"  # t
 OLD, NEW = keytab(), keytab(HOST)  # the file before and after it
 CLASH = keytab(replace(B, key=b"other"))  # a keytab that clashes with TWO
 WALK = b"start\nstep 0\n"
-# A cache of a ticket that is valid whenever a test runs, whose own bytes alone have the realm of its server, and of one
-# that TWO has the key of.
+# A cache of a ticket that is always valid, whose own bytes have its realm, and of one that TWO has a key of.
 VALID = cache(replace(TICKET, server=Name((b"krbtgt", b"R"), b""), ticket=ticket(encrypted(b"\x12")),
                       endtime=2**32 - 1), ticket_of(Name((b"host", b"a"))), PA_TYPE, fields=OFFSET)
 
@@ -34,8 +33,7 @@ class Command:
     leaves: tuple[Undisturbed, ...] = ()
     # A line that adds NAME to PATH at first, or removes it, and its input. SOURCE is a keytab that has the name.
     turns: tuple[str, str] = ("", "")
-    # Whether it prints a part of a text before it has all of it.
-    prints_early: bool = False
+    prints_early: bool = False  # whether it prints a part of a text before it has all of it
 
     @property
     def reads_input(self) -> bool:
@@ -183,8 +181,7 @@ def mixed_cache(count: int) -> bytes:
 
 
 def talk(count: int) -> Undisturbed:
-    """Returns a run of ktutil that reads `a` and `b`, makes `n` and changes `a`, with some faulty lines. `b` has an end
-    mark, `d` is damaged, and `a` has that many entries."""
+    """Returns a run of ktutil over `a` of that many entries, `b` with an end mark and `d`, which is damaged."""
     lines = ["l", "rkt a", "l -t -k -e", "addent -key -p new/one@R -k 7 -e 18", KEYS[32], "wkt n", "frob", "rkt b",
              "delent 2", "wkt n", "rkt no", "l -t -k -e", "clear", "rkt d", "addent -key -p x@R -k 1 -e 17", "00",
              "rkt n", "wkt a", "wkt d", "l", "rkt a", "addent -p y@R -key -e 17 -k 300", KEYS[16], "wkt a", "l -e",
@@ -195,8 +192,7 @@ def talk(count: int) -> Undisturbed:
 
 def usual_runs(size: str, image: bytes, tickets: bytes, rotated: bytes, counts: tuple[int, int, int],
                *copied: tuple[bytes, bytes]) -> list[Undisturbed]:
-    """Returns runs of each command over files of a size, with scripts and a talk of that many lines, and copies from a
-    keytab into another, of all entries and of new versions."""
+    """Returns runs of each command over files of a size, with scripts and a talk of that many lines, and copies."""
     return [
         *(at_now(line, k=image) for line in ("klist -ktKe k", "klist -kK --json k", "ktfind k 0 17 -- xxx/3@R")),
         *(at_now(line, c=tickets) for line in ("klist -cefC c", "klist --json c")),

@@ -43,13 +43,10 @@ class Case:
     words: tuple[str | bytes, ...]
     wanted: Outcome
     files: dict[str, bytes] = field(default_factory=dict)
-    # The files after the run, if they differ from those before it.
-    files_after: dict[str, bytes] | None = None
+    files_after: dict[str, bytes] | None = None  # the files after the run, if they differ from those before it
     stdin: bytes = b""
-    # The time of the clock, if it is not that of the system.
-    clock: int | None = None
-    # The mode of the files, or 0: that of files as a test makes them.
-    mode: int = 0
+    clock: int | None = None  # the time of the clock, if it is not that of the system
+    mode: int = 0  # the mode of the files, or 0: that of files as a test makes them
 
     def size(self) -> int:
         """Returns the number of bytes that it gives the program."""
@@ -81,8 +78,7 @@ class Report:
         self.front = f"{topic}: " if topic else ""
         self.passed = self.failed = self.large = 0
         self.left_out: list[str] = []
-        # What is compared with the definitions.
-        self.seen: list[Case] = []
+        self.seen: list[Case] = []  # what is compared with the definitions
 
     def check(self, name: str, faults: list[str]) -> None:
         """Counts one case, which failed if there are faults."""
@@ -202,8 +198,7 @@ def run_case(program: str, case: Case, **options) -> tuple[Outcome, dict[str, by
 
 
 def limit(kind: int, most: int, is_spared: bool = True) -> Callable[[], None]:
-    """Returns a function that limits a resource. A write that would exceed the limit of a file is cut if the run is
-    spared the signal that would end it."""
+    """Returns a function that limits a resource. A write over it is cut, if the run is spared the signal."""
     def before_run() -> None:
         signal.signal(signal.SIGXFSZ, signal.SIG_IGN if is_spared else signal.SIG_DFL)
         resource.setrlimit(kind, (most, most))
@@ -222,8 +217,7 @@ Check = Callable[[Report, str], None]  # what checks a program, and reports that
 
 
 def every(*checks: Check, of: str = "", needs: tuple[str, ...] = (), lack: Callable[[], str] = str) -> Check:
-    """Returns a check that makes those in turn. Where a tool that they need is missing, or something is lacking, it
-    reports the part OF as left out."""
+    """Returns a check that makes those in turn, or reports the part OF as left out if a tool or more is lacking."""
     def check(report: Report, program: str) -> None:
         missing = [tool for tool in needs if shutil.which(tool) is None]
         if why := f"{missing[0]} is not there" if missing else lack():
@@ -267,10 +261,7 @@ def with_mode(*lines: str, is_wrong: bool = True) -> Outcome:
 
 def over(name: str, line: str | Line, image: bytes | None, wanted: Outcome | list[str],
          after: bytes | None = None, given: bytes | list[str] = b"") -> Case:
-    """Returns a run over the file that its last word names, or over none, with that input.
-
-    Wanted are lines that it prints, or an outcome. With no `after` the file stays as it is.
-    """
+    """Returns a run over the file that its last word names, or none. With no `after` the file stays as it is."""
     words = words_of(line)
     files, files_after = ({} if each is None else {words[-1]: each} for each in (image, after))
     return Case(name, words, wanted if isinstance(wanted, Outcome) else printed(*wanted), files,

@@ -103,11 +103,7 @@ def halted(program: str, one: Run, folder: str, halt: Halt, change: Callable[[st
 
 @dataclass(frozen=True)
 class Counted:
-    """A run, the files after it, its allocations, and the number of its calls that failed or moved nothing.
-
-    Where a pace is set also how many milliseconds it slept, and how many passed; where keys are looked for, in how many
-    blocks.
-    """
+    """A run, the files after it, its allocations and failed calls; milliseconds slept and passed; blocks given back."""
 
     outcome: Outcome
     files: dict[str, bytes]

@@ -59,8 +59,7 @@ class Undisturbed:
     files: dict[str, bytes] = field(default_factory=dict)
     stdin: bytes = b""
     clock: int | None = None
-    # The words of the run that it is compared with, if these are others.
-    plain: Line | None = None
+    plain: Line | None = None  # the words of the run that it is compared with, if these are others
 
     @cached_property
     def done(self) -> tuple[Outcome, dict[str, bytes]]:

@@ -1,7 +1,5 @@
-"""Storms: many programs that change one file at the same time; in some, half of them are killed.
-
-What each reports as saved is there afterwards, and readers meanwhile see a whole file.
-"""
+"""Storms: many programs that change one file at the same time; in some, half of them are killed. What each reports as
+saved is there afterwards, and readers meanwhile see a whole file."""
 
 import os
 import signal
@@ -73,8 +71,7 @@ class Run:
         return LOST in self.output or self.started.returncode == 0 and not has_failed
 
     def faults(self, names: Collection[str], beside_mit: bool) -> list[str]:
-        """Returns its faults, given the names that the file has after all runs. It may end if it saved, was killed, or
-        was refused for good reason."""
+        """Returns its faults, by the names in the file after all runs: it saved, was killed, or refused with reason."""
         # MIT's may write into a file that has lost its name, and is not judged.
         if self.is_mits:
             return []
@@ -131,8 +128,7 @@ class Kind:
     commands: tuple[str, ...]
     over_none: bool = False
     kills: bool = False
-    # Half of the programs are MIT's ktutil, and they begin within a second.
-    with_mit: bool = False
+    with_mit: bool = False  # half of the programs are MIT's ktutil, and they begin within a second
     # Half of the runs save in place: none of those that are killed, since they may leave a part of a save.
     in_place: bool = False
 
@@ -160,8 +156,7 @@ OF_KEYTABS, OF_CACHES = ([(name,) for name, command in COMMANDS.items() if comma
 MIXED, BOTH = tuple(name for (name,) in OF_KEYTABS if name != "ktutil"), ("ccedit", "ccremove", "ccremove", "ccedit")
 ADDING = [names for names in OF_KEYTABS if not removes(*names)]
 
-# The kinds of one command and of several; those in which half of the runs are killed; those over none; and those beside
-# MIT's ktutil.
+# The kinds of one command and of several, with kills or without; those over none; and those beside ktutil.
 KINDS = (*(Kind(names, kills=kills) for names in (*OF_KEYTABS, *OF_CACHES, MIXED, BOTH) for kills in (False, True)),
          *(Kind(names, over_none=True, kills=kills) for names in ADDING for kills in (False, True)),
          *(Kind(names, with_mit=True) for names in (*ADDING, MIXED)))
@@ -211,8 +206,7 @@ def seen_while(path: str, rages: Callable[[], None]) -> set[bytes]:
 
 
 def faults_of(kind: Kind, runs: list[Run], left: dict[str, object], seen: set[bytes]) -> list[str]:
-    """Returns the faults of what was seen meanwhile, and of the folder at the end: each saved change is there, and no
-    entry twice."""
+    """Returns the faults of what was seen meanwhile, and of the end: each saved change is there, none twice."""
     names = names_of(kind.option, left.get("k", b""))
     found = [f"the file is not whole at the end: {left.get('k')}"] * (names is None)
     names = names or []
@@ -247,7 +241,6 @@ def check_kinds(kinds: tuple[Kind, ...], report: Report, program: str, seeds: ra
                 report.check(f"{kind}, round {seed}", storm(program, kind, seed)[:3])
 
 
-# Storms of each command; of hold; and those in which some runs save in place and others replace the file, and some of
-# those that replace it are killed.
+# Storms of each command; of hold; and those in which some runs save in place and others replace the file.
 TOPICS = tuple(Rounds(partial(check_kinds, kinds), usual=usual, share=2_000, name=f"{what}_at_once")
                for what, kinds, usual in (("changes", KINDS, 2), ("holds", HOLDS, 1), ("places", PLACES, 1)))

@@ -66,8 +66,7 @@ def checked(name: str, line: str, seconds: int, is_aged: bool) -> Case:
 
 
 def aged() -> Iterator[Row]:
-    """Yields removals of an old entry, which goes once the newest version of its name is that old, and checks of that
-    version, which is aged then."""
+    """Yields removals of an old entry, which goes once the newest version is that old, and checks of that one."""
     old, new = versioned(1, 2**32 - 1), versioned(2, 1_000_000)
     for now, age, is_removed in AGED:
         yield over(f"{age} old at {now}", f"ktremove -k old --age {age} k", keytab(old, new),
@@ -80,8 +79,7 @@ def aged() -> Iterator[Row]:
 
 
 def valid() -> Iterator[Row]:
-    """Yields questions about a ticket, and its removal: it is valid until the second in which it ends, and the KDC's
-    offset changes nothing."""
+    """Yields questions about a ticket, and its removal: it is valid until it ends, whatever the KDC's offset."""
     for end, now, seconds, is_valid in ENDING:
         fields, gone = offset(1_000_000_000, 0), ["removed 34 krbtgt/R@R"]
         image = cache(replace(TICKET, endtime=end), fields=fields)

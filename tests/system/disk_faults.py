@@ -1,9 +1,5 @@
 """System calls of a save that fail: the cause that is reported for each error, and what a save goes on without. Those
-of saves in place, which fail, or at which a run is killed.
-
-In place bytes past the old end are written and synced first. If a write, a cut or a sync fails, the old bytes are
-written back, and if that fails too, a message says so.
-"""
+of saves in place, which fail, or at which a run is killed: the old bytes come back, or a message says otherwise."""
 
 import errno
 import os
@@ -33,8 +29,7 @@ def named(errors: str) -> dict[str, str]:
 
 NO_MEMORY = {"ENOMEM": "error 12"}
 
-# Calls, of a path or of any, what the first one fails with, and the phrase of it. With what a save goes on without an
-# owner or a lock is below.
+# Calls, of a path or of any, what the first one fails with, and the phrase of it.
 FAILED = {
     (OPEN, "k.krbfile"): named("EACCES ENOENT ENOTDIR EISDIR EROFS ENAMETOOLONG") | {"EPERM": CAUSES["EACCES"]},
     (LOOK, "k"): named("EACCES ENOTDIR ELOOP") | NO_MEMORY, ("flock", ""): named("ENOLCK"),
@@ -162,8 +157,7 @@ def both_fail(call: Call, back: Call) -> tuple[str, ...]:
 
 
 def check_lost(report: Report, program: str, case: Undisturbed, call: Call, back: Call, left: str) -> None:
-    """Lets a call fail, and then one that brings the old bytes back: what that leaves is reported, without words too if
-    an old byte may be lost."""
+    """Lets a call fail, and then one that brings the old bytes back: what that leaves is reported."""
     damage = [message_of(case, "damaged")] if left == "damaged" else []
     phrases = [AFTERMATHS["restored"]] if left == "restored" else damage
     for one, words in ((case, damage), (with_words(case), [CAUSES["EIO"], *phrases])):

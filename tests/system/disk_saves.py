@@ -39,8 +39,7 @@ def check_own_files(report: Report, program: str) -> None:
         check_owned(report, "an own file", program, here, here, case, umask=0o077)
 
 
-# What is lost in a save by another user, the owner and the group before and after it, the groups of that user, and
-# modes before and after it.
+# What is lost in a save by another user, the owner and group before and after, the user's groups, and modes.
 LOST = (
     ("the owner is", (0, GROUP), (USER, GROUP), (GROUP,),
      ((0o6664, 0o664), (0o264, 0o220), (0o666, 0o666), (0o474, 0o444))),
@@ -83,8 +82,7 @@ def long_chain(count: int) -> list[tuple[str, str]]:
     return [*zip(names, names[1:])]
 
 
-# How a run ends that replaces or makes its file, and one in place: over a file, over none, where none can be made, and
-# over links that lead nowhere.
+# How a run ends that replaces its file, and one in place: over a file, none, no folder, and links to nowhere.
 MISSING = message(1, "k: no such file")
 OVER, MAKES_IT, NO_FOLDER, NOWHERE = (SAVED, SAVED), (SAVED, MISSING), (UNSAVED, MISSING), (UNREAD, UNREAD)
 
@@ -142,12 +140,8 @@ def lock_folder(folder: str) -> None:
 
 
 def check_locked_folder(report: Report, program: str) -> None:
-    """Checks a folder in which no file may be made. What saves nothing, or in place, needs no right to make one.
-
-    Root may make files in each, so another user runs the program.
-    """
-    options = as_another(program)
-    if options is None:
+    """Checks a folder in which none but root may make files: what saves nothing, or in place, needs none."""
+    if (options := as_another(program)) is None:
         report.skip("a locked folder", "none but root may start the program")
         return
     scripts = [undisturbed("ktedit k", script, k=before, name=f"{script[-6:-1]!r} over {before}")

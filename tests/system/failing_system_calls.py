@@ -1,7 +1,5 @@
-"""Each system call of each command fails, by several errors, and is the last of its run.
-
-What a failure changes depends on the call and on the file that it is about, which strace shows.
-"""
+"""Each system call of each command fails, by several errors, and is the last of its run. What a failure changes depends
+on the call and on its file, which strace shows."""
 
 import os
 import re
@@ -15,8 +13,7 @@ from runs.harness import Outcome, Report, differences, every, files_in, folder_o
 from runs.system_calls import Call, calls_of, traced
 from runs.undisturbed import IN_PLACE, Undisturbed, in_place, undisturbed
 from runs.undisturbed import explained as with_words
-from system.early_ends import End, Ends
-from system.failing_streams import NO_OUTPUT, ends_in_output
+from system.failing_streams import NO_OUTPUT, End, Ends, ends_in_output
 from system.saving import ADD, UNREAD, UNSAVED, explained, images, run_over, reported, tree, tree_faults, write
 from words.phrases import CAUSES
 
@@ -26,8 +23,7 @@ ERRORS = ("EIO", "ENOSPC", "EACCES", "EPERM", "EINTR", "ENOMEM")
 REPEATED = ("open", "openat", "flock", "fchmod", "fsync", "pwrite64", "ftruncate")
 REMAINS = b"remains"  # what an earlier save left
 
-# The calls without which a run does the same: those about the system's own files, the folder and what was replaced, the
-# lock of a file, which is tried by another handle too, and each close.
+# Calls that are spared: about the system's files, the folder and what was replaced, a lock, and each close.
 SPARED = re.compile(r'close|.*[<"]/proc/|.*"\."|.*\(deleted\)|(?:flock|fsync)\((?!.*\.krbfile>)')
 
 LOOK = re.compile(r'\w*stat\w*\((?:AT_FDCWD\S* )?"')  # a look at one of several files, which may be a pipe
@@ -60,8 +56,7 @@ def faults_of_files(ends: Ends, files: dict[str, bytes]) -> list[str]:
 
 def killed(program: str, run: Undisturbed, call: Call, judge: Callable[[dict[str, bytes], list[str]], list[str]],
            ) -> list[str]:
-    """Returns the faults of a run that is killed at a call, or ended before, of what it left, and of the next run if it
-    changes a file."""
+    """Returns the faults of a run that is killed at a call, of what it left, and of the next if it changes a file."""
     with folder_of(run.files) as folder:
         got, trace = traced(program, run, folder, *call.to("signal=KILL"))
         has_ended = got.status == run.wanted.status
@@ -85,8 +80,7 @@ def traced_run(program: str, run: Undisturbed, *options: str) -> tuple[End, list
 
 
 def calls_of_run(report: Report, program: str, ends: Ends) -> list[Call]:
-    """Returns the calls of a run's work, which reads its input, or names the file, at first. After a rename the folder
-    is synced at once."""
+    """Returns the calls of a run from its input or file on. After a rename the folder is synced at once."""
     end, trace = traced_run(program, ends.run)
     has_read = ends.run.stdin and ends.command != "hold"
     calls = [*calls_of(trace, "read(0" if has_read else f'"{ends.names[0]}"')]

@@ -61,8 +61,7 @@ def faults_of_waiting(program: str, folder: str, end: Callable[[], None], case: 
 
 
 def waited_for(program: str, case: Run, lock: str, name: str) -> list[str]:
-    """Returns the faults of a run that has to wait for a lock of its file, or of its new one. If it saves nothing, it
-    writes none."""
+    """Returns the faults of a run that has to wait for a lock of its file, or of its new one."""
     with folder_of({name: b"held", **case.files}) as folder, open(os.path.join(folder, name), "r+b") as file:
         before = set_back(folder)
         LOCKS[lock](file)
@@ -102,10 +101,7 @@ def beside(case: Undisturbed, name: str = "") -> tuple[Case, str]:
 
 
 def check_no_waits(report: Report, program: str) -> None:
-    """Checks that runs that change nothing wait for no lock, nor those that replace for one to read.
-
-    They make no file beside theirs either, not even one that is removed again.
-    """
+    """Checks that runs that change nothing wait for no lock and make no file, nor replacing ones for one to read."""
     rows = [(case, file, lock) for case in LOCKING_NOTHING for lock in (FLOCK, TO_WRITE) for file in case.files]
     rows += [(case, file_of(case), lock) for case in PLACED for lock in (TO_READ, OPEN_READ)]
     # What a run only reads is not locked.

@@ -1,6 +1,5 @@
 """What a save in place keeps: the file itself, with its owner, mode, other names, access list and label. Files that can
-be saved in place only, as none can be made beside them or take their name, and disks that are full or read-only. A
-missing file is not made in place."""
+be saved in place only, and disks that are full or read-only. A missing file is not made in place."""
 
 import os
 import resource
@@ -35,8 +34,7 @@ INTO_BOTH = "".join(f"add 3 17 1 {'00' * 16} {'z' * length}@R\n" for length in (
 MODE = 0o640
 NOBODY = 0xffffffff  # the number of an entry that is about no single user
 
-# An access list of that mode by which another user may read the file too, as the system stores it: a tag, permissions
-# and a number for each entry.
+# An access list of that mode by which another user may read the file, as stored: tag, permissions, number.
 LIST = struct.pack("<I", 2) + b"".join(struct.pack("<HHI", *entry) for entry in (
     (1, 6, NOBODY), (2, 4, 1234), (4, 4, NOBODY), (16, 4, NOBODY), (32, 0, NOBODY)))
 
@@ -59,8 +57,7 @@ def kinds(report: Report) -> list[tuple[str, bytes] | tuple[()]]:
 
 
 def check_kept(report: Report, program: str) -> None:
-    """Checks a save by each command of a file that has such an attribute, another name, and if root makes it another
-    owner. As it stays the same file, its other names, and who has it open, have the new bytes."""
+    """Checks a save of a file with such an attribute, another name, and another owner: it stays the same file."""
     for case, attribute in product(map(in_place, PLACED), kinds(report)):
         with folder_of(case.files) as folder, folder_of({}) as other:
             path = os.path.join(folder, file_of(case))
@@ -81,8 +78,8 @@ def check_kept(report: Report, program: str) -> None:
 
 def check_set_id(report: Report, program: str) -> None:
     """Checks that a file that loses setuid while its new end is added is saved all the same."""
-    options, case = as_another(program), in_place(LONGER)
-    if options is None:
+    case = in_place(LONGER)
+    if (options := as_another(program)) is None:
         report.skip("files with setuid", "none but root may start the program")
         return
     mine = (USER, USER) if os.geteuid() == 0 else (os.geteuid(), os.getegid())
@@ -102,8 +99,7 @@ def check_mounted(report: Report, program: str) -> None:
                 stdin=case.stdin))
 
 
-# Rows over a disk whose files take each of its pages. A save for which there is no room leaves the old bytes, also
-# another's `k.new`; one that needs none is made.
+# Rows over a full disk: a save without room leaves the old bytes, and another's `k.new`; others are made.
 TWO_FILES = {"k": OLD, "k.new": NEW}
 FULL_DISKS = (refused(in_place(TOO_MUCH), "ENOSPC"), refused(LESS, "ENOSPC"), in_place(LESS), refused(ADD, "ENOSPC"),
               replace(refused(ADD, "ENOSPC"), files=TWO_FILES, files_after=TWO_FILES),
@@ -140,8 +136,7 @@ def check_limit(report: Report, program: str) -> None:
 
 
 def check_sparse(report: Report, program: str) -> None:
-    """Checks a file with a hole that takes no room, on a disk with room for what is added behind it, but not for what
-    is written into it too: the old bytes have room again once the file is cut."""
+    """Checks a hole that takes no room, on a disk that is full once it is written into: the old bytes come back."""
     with disk("48k") as folder:
         path, fill = Path(folder, "k"), Path(folder, "fill")
         path.write_bytes(SPARSE[:SPARSE_FROM])
@@ -178,19 +173,16 @@ CASES = [
     unchanged("ktedit --in-place k", ("line 1: fault 2", line_fault(2)), stdin=b"start 1\n"),
     *(copy("--in-place", None, target, ("k: no such file", "")) for target in (TWO, None)),
     copy("--in-place -p c@R", TWO, None, FINDS_NONE), copy("--in-place", TWO[:-1], None, ("k: refused 1", code(1))),
-    # ktutil: what is read, and what is written.
     unchanged("ktutil --in-place", ("k: no such file", f"line 1: {NO_FILE}"), stdin=b"rkt k\n"),
     unwritten("k", NO_FILE, b""), unwritten("k", NO_FILE), unwritten("no/k", NO_FILE),
     unwritten("FILE:k", LEAVE_OUT.replace("TYPE", "FILE:")),
-    # A file that is not a keytab, and one of no bytes, into which is copied.
     unchanged("ktedit --in-place k", no_keytab(BEGINS_AS_CACHE), stdin=SCRIPT, files={"k": USUAL}),
     copy("--in-place", B_OLD, b"", status=0, out=["copied 2 kvno 3 etype 17 b@R"], after={"k": B_OLD, "t": B_OLD}),
 ]
 
 
 def check_missing(report: Report, program: str) -> None:
-    """Checks runs in place over a missing file, also those that save nothing, unless what comes before is at fault; and
-    a file in no folder, and one of another type."""
+    """Checks runs in place over a file that is missing, in no folder, or of another type."""
     for case in (*CHANGES, *READS, *LEAVES):
         if case.words[0] in SAVING and case.words[0] != "ktutil" and case.wanted.status == 0:
             missing(case).check(report, program)

@@ -1,5 +1,4 @@
-"""`hold`: what it gives and takes, when it gives nothing, how it says that it ended, and that its file is locked
-meanwhile."""
+"""`hold`: what it gives and takes, when it gives nothing, how it says that it ended, and its lock meanwhile."""
 
 import os
 import re
@@ -84,7 +83,6 @@ CASES = [
     # A cache of version 3 is as any, and nothing is said of entries that MIT's programs do not see.
     given(C, USUAL, frame(VERSION_3), after=VERSION_3),
     given(K, TWO, frame(UNSEEN), after=UNSEEN), given(C, USUAL, frame(USUAL)),
-    # What is given is at fault.
     *(given(K, TWO, data, NOT_A_FRAME) for data in (*CUT, *LONGER, *ODD)),
     given(K, None, b"2\n\5", NOT_A_FRAME), given(C, USUAL, USUAL, NOT_A_FRAME),
     *(given(K, TWO, frame(data), no_keytab(why, "input")) for data, why in (
@@ -96,12 +94,10 @@ CASES = [
         (b"\5\2\0\0", 1, 2), (keytab(B, record(bytes(3))), 3, 47))),
     given(C, USUAL, frame(CUT_CACHE), damaged(4, 392)),
     given("hold -k --v1-big k", old(order=BIG), frame(old(HOST)), damaged(2, 2)),
-    # Sizes.
     partial(given, K, TWO, bytes(LIMIT + 12), ("input too large", LARGE), name="too many bytes"),
     partial(given, K, TWO, bytes(LIMIT + 11), NOT_A_FRAME, name="as many bytes as may be"),
     lambda: given(K, TWO, frame(sized(LIMIT + 1)), ("input too large", LARGE), name="too large"),
     lambda: given(K, TWO, b"00" + frame(sized(LIMIT)), after=sized(LIMIT), name="the largest"),
-    # The file is at fault.
     *(refused(K, no_keytab(why), files={"k": image}) for image, why in ((b"\5", SHORT), (USUAL, BEGINS_AS_CACHE))),
     *(refused(C, no_cache(why), files={"k": image}) for image, why in ((b"", SHORT), (TWO, HELD_AS_KEYTAB))),
     refused(K, ("k: refused 1", code(1)), files={"k": TWO[:-1]}),
@@ -142,8 +138,7 @@ def check_locked(report: Report, program: str) -> None:
 
 
 def check_outputs(report: Report, program: str) -> None:
-    """Checks an output that takes nothing, and a terminal: nothing is saved, and the input is left. One that ends after
-    the frame changes nothing."""
+    """Checks outputs that take nothing: nothing is saved. One that ends after the frame changes nothing."""
     full = '"$0" "$@" >/dev/full; status=$?; cat; exit $status'
     for line in (K, PLACED):
         case = Case(f"{line} >/dev/full", ("-c", full, program, EXPLAIN, *line.split()),

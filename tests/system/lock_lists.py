@@ -1,7 +1,5 @@
-"""Lists of locks that no system shows at will, and waits by a clock that passes at once.
-
-Each file has the number 0 on the device 0:0. That of its mount is 0:38, if that is known.
-"""
+"""Lists of locks that no system shows at will, and waits by a clock that passes at once. Each file has the number 0 on
+the device 0:0; that of its mount is 0:38, if that is known."""
 
 import os
 from itertools import product
@@ -30,8 +28,7 @@ OPEN_FILE = b"pos:\t0\nflags:\t0100001\nmnt_id:\t25\nino:\t131\n"  # the descrip
 MOUNTS = (b"24 1 0:37 / / rw,relatime - overlay overlay rw\n26 24 0:31 / /\xff rw - tmpfs t1 rw\n"
           b"25 24 0:38 / /tmp rw shared:2 - tmpfs t2 rw\n")
 
-# Whether lines are such a lock if the device of the mount is known, if the list of mounts cannot be read, and if the
-# description cannot; and the lines. The number 131 is that of the description.
+# Whether lines are such a lock if all is known, without the list of mounts, without the description; and these.
 LOCK_LINES = {
     (True, True, True): (LOCK, lock("00:00:0", "OFDLCK ADVISORY  WRITE -1"), FLOCK + lock("00:26:0"),
                          lock("00:26:0", "-> POSIX  MANDATORY WRITE 12"), lock("00:00:1") * 300 + LOCK),
@@ -46,12 +43,10 @@ MORE = 2_000  # and if time passes by looks at the clock
 ENDLESS = None  # a list without an end
 READINGS = 5  # how often the list of locks is read in each look
 
-# Saves, how often each looks for locks, and those that it waits for. In place one that makes the file longer looks
-# once more.
+# Saves, how often each looks for locks, and those that it waits for. One that grows in place looks once more.
 LOOKS = ((ADD, 2, (LOCK,)), (in_place(EQUAL), 2, (LOCK, NO_LOCK)), (in_place(ADD), 3, (LOCK, NO_LOCK)))
 
-# Waits that end: whether something that is not ours has the name of the new file, the list of locks, by how many
-# milliseconds each reading of the clock advances it, 0 if it cannot be read, and the cause.
+# Whether the new file's name is taken, the locks, the milliseconds of a reading of the clock, and the cause.
 ENDS = (
     (False, LOCK, 0, "in use"), (False, LOCK, 10, "in use"), (False, ENDLESS, 100, "in use"),
     (True, FLOCK, 0, "in use"),
@@ -90,10 +85,7 @@ def check_readings(report: Report, under: Preloaded) -> None:
 
 
 def check_lines(report: Report, under: Preloaded) -> None:
-    """Checks each line: a lock to write on the file is waited for, on its device or that of its mount.
-
-    If that of its mount is not known, all devices without a disk count as one.
-    """
+    """Checks each line: a lock on the file is waited for, on its device, its mount's, or any without a disk."""
     for waits, lines in LOCK_LINES.items():
         for line, (lists, is_waited) in product(lines, zip(({}, {"mountinfo": b""}, {"fdinfo": b""}), waits)):
             report.check(f"{line}, without {[*lists]}", faults_of_save(seen(under, {"1": line, **lists}), is_waited))
@@ -111,8 +103,7 @@ def check_ends(report: Report, under: Preloaded) -> None:
 
 
 def check_two_waits(report: Report, under: Preloaded) -> None:
-    """Checks that the wait before a save has its own ten seconds: there and before the load the readings take six. One
-    that is over before its first look still looks once."""
+    """Checks that the wait before a save has its own ten seconds. One that is over at once still looks once."""
     got = seen(under, {"locks": NO_LOCK}, pace=600)
     faults = [] if got.passed > WAITS["in use"] else [f"it took {got.passed} ms"]
     report.check("two long waits", faults + faults_of_save(got, False))

@@ -1,7 +1,4 @@
-"""What exists under the name of a new file, and names under which no file is saved.
-
-A stale file of a killed run is removed. Anything else stays as it is, and then the file is not saved.
-"""
+"""What has the name of a new file: what is stale is removed, all else stays. And names under which no file is saved."""
 
 import os
 from collections.abc import Iterator
@@ -50,8 +47,7 @@ def run_beside(program: str, case: Case, folder: str, **options: object) -> Outc
 
 def faults_beside(program: str, make: Place, owner: int | None, case: Undisturbed = ADD, mode: int = 0o777,
                   is_saved: bool = False, **options) -> list[str]:
-    """Returns the faults of a run with something in place of its new file, in a folder of that mode. A save removes it,
-    unless it is in place."""
+    """Returns the faults of a run with something in its new file's place. A save that replaces removes it."""
     name, files = file_of(case), {"other": b"other", **(case.files if owner is not None else {})}
     new = f"{name}.krbfile"
     places = [at(new, make), at(".", lambda path: os.chmod(path, mode))]
@@ -63,8 +59,7 @@ def faults_beside(program: str, make: Place, owner: int | None, case: Undisturbe
                        **options)
 
 
-# What has the name of a new file, what makes it, who owns the file, if there is one, and how the run differs from one
-# that adds an entry and is refused.
+# What has the name of a new file, what makes it, who owns the file, and how the run differs from a refused one.
 Row = tuple[str, Place, int | None, dict[str, object]]
 SAVES = {"is_saved": True}
 
@@ -84,8 +79,7 @@ def own_rows() -> list[Row]:
 
 
 def others_rows(user: dict[str, object]) -> list[Row]:
-    """Returns what is there of others, for runs of root and of a user: what the file's owner, root or that user left is
-    removed."""
+    """Returns what is there of others: what the file's owner, root or the user of the run left is removed."""
     strange, is_sticky = owned_by(STRANGER), {"mode": 0o1777}
     return [
         *((f"a user's file, {owner} owns that", strange, owner, {}) for owner in (0, None, USER)),
@@ -139,8 +133,7 @@ def unsaved_as(run: Undisturbed, name: str, cause: str, setting: Place = lambda 
 
 
 def of_names() -> Iterator[Explained | Case]:
-    """Yields runs over files with the name of a new one, under names too long for one, which in place are saved, and
-    where something is in the way, or no folder."""
+    """Yields runs over files with the name of a new one, too long a name, something in the way, or no folder."""
     for run in (*both_ways(*CHANGES), *MAKES):
         yield unsaved_as(run, f"{file_of(run)}.krbfile", "name of saves")
         yield from (renamed(run, name) if IN_PLACE in run.words else unsaved_as(run, name, "ENAMETOOLONG")

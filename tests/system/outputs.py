@@ -1,9 +1,5 @@
-"""Outputs that take less than the text, or nothing, inputs that give nothing, and how both are read and written. What
-an output took is a prefix of the text, and the status shows the failure. Long listings and JSON are written in pieces.
-
-A run that is to change what is no plain file, in either way, refuses it. It does not open a pipe of that name, so that
-it does not wait for a writer; nor does one over several files, or an overview, which open no terminal either.
-"""
+"""Outputs that take a prefix of the text, or nothing, inputs that give nothing, and how both are read and written. What
+is no plain file, and so not changed: a pipe is not opened, nor a terminal among several files, or by an overview."""
 
 import os
 import select
@@ -12,7 +8,7 @@ import socket
 import stat
 import threading
 from collections.abc import Callable, Iterator
-from contextlib import AbstractContextManager, contextmanager, suppress
+from contextlib import AbstractContextManager, contextmanager, nullcontext, suppress
 from dataclasses import replace
 from functools import partial
 from itertools import product
@@ -26,8 +22,7 @@ from runs.commands import (CHANGES, COMMANDS, LEAVES, OLD, READS, both_ways, fil
                            renamed, small_runs)
 from runs.harness import EXPLAIN, SECONDS, Outcome, Report, differences, every, folder_of, piped, run, run_case
 from runs.undisturbed import IN_PLACE, Undisturbed, undisturbed
-from system.early_ends import End, Ends
-from system.failing_streams import NO_OUTPUT, ends_in_output
+from system.failing_streams import NO_OUTPUT, End, Ends, ends_in_output
 from system.saving import last_line, tree_faults
 from words.explaining import for_owner
 from words.phrases import CAUSES
@@ -77,18 +72,14 @@ def is_met(ends: Ends, stream: str, end: End) -> bool:
     return end == (wanted if stream == "stdout" else replace(wanted, err=b""), files)
 
 
-def closed(number: int) -> dict[str, object]:
-    """Returns the options of a run one of whose streams is closed."""
-    return {"preexec_fn": lambda: os.close(number)}
-
-
 def check_lost(report: Report, program: str) -> None:
     """Makes runs that do not depend on the clock with each stream closed, and with outputs on a full device."""
     timeless = [run for run in small_runs() if run.words[0] not in ("ccremove", "ktutil", "show")]
     with open("/dev/full", "wb") as full:
-        lost = (("stdin", "closed", closed(0)),
-                ("stdout", "full", {"stdout": full}), ("stdout", "closed", closed(1) | {"stdout": None}),
-                ("stderr", "full", {"stderr": full}), ("stderr", "closed", closed(2) | {"stderr": None}))
+        lost = (("stdin", "closed", {"preexec_fn": partial(os.close, 0)}),
+                ("stdout", "full", {"stdout": full}), ("stderr", "full", {"stderr": full}),
+                ("stdout", "closed", {"preexec_fn": partial(os.close, 1), "stdout": None}),
+                ("stderr", "closed", {"preexec_fn": partial(os.close, 2), "stderr": None}))
         for ends, (stream, how, options) in product(
                 map(Ends, (*timeless, *both_ways(*CHANGES), *READS, *LEAVES, *TALKS)), lost):
             got, files = run_case(program, ends.run.as_case(), **options)
@@ -176,11 +167,10 @@ def typed(path: str) -> Iterator[IsUsed]:
         os.close(typist)
 
 
-@contextmanager
-def made(make: Callable[[str], object], path: str) -> Iterator[IsUsed]:
+def made(make: Callable[[str], object], path: str) -> AbstractContextManager[IsUsed]:
     """Makes what does not show whether it was used."""
     make(path)
-    yield lambda: False
+    return nullcontext(bool)
 
 
 # What is no plain file and no folder, each under a name.

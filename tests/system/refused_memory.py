@@ -1,9 +1,5 @@
-"""Refuses each allocation of each command, once and from it on.
-
-A run that is out of memory reports so, with status 4. klist and ktfind may have printed a prefix of their text, ktedit
-has neither printed nor saved, one over several files has handled them up to some file, and ktutil its lines up to some
-line. Help is printed, or a prefix of it.
-"""
+"""Refuses each allocation of each command, once and from it on. A run reports that with status 4, after a prefix of its
+text, or after some of its files, or of the lines of ktutil."""
 
 import os
 from dataclasses import replace
@@ -12,7 +8,7 @@ from makers.images import B, HOST, TICKET, TWO, cache, keytab
 from runs.commands import COMMANDS, NOW, at_now, large_runs, rotated_keytab, small_runs
 from runs.harness import EXPLAIN, Outcome, Report, differences, words_of
 from runs.system_calls import Counted, Preloaded, preloaded
-from system.early_ends import NO_MEMORY, Ends
+from system.failing_streams import NO_MEMORY, Ends
 
 SOME = 45  # how many allocations of a run are refused over larger files
 ALL = 5_000  # over small ones, more than there are: all

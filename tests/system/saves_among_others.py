@@ -1,9 +1,5 @@
-"""A save while others change the file, by a handle that they have too, its name or its folder.
-
-If the file is replaced, a change after the comparison is lost. In place it is kept, unless the same bytes were written.
-Either is reported, with words or without; the output is as ever. One before the comparison, which is behind the locks,
-is kept too.
-"""
+"""A save while others change the file, by a handle that they have too, its name or its folder. If the file is replaced,
+a change after the comparison is lost; in place it is kept, unless the same bytes were written. Either is reported."""
 
 import os
 from collections.abc import Callable, Iterator
@@ -24,7 +20,6 @@ from system.saving import (ADD, B_NEW, B_OLD, B_SAVED, CUT_OFF, EQUAL, LONGER, M
                            state_of, tree, tree_faults, unsaved, with_words, write)
 from words.phrases import AFTERMATHS, CAUSES
 
-# The calls after which a run is halted, each under a name.
 HALTS = {
     "look": Halt("?statx,?newfstatat,?lstat,?lstat64", paths=("file",)), "making": Halt("openat", paths=("k.krbfile",)),
     "finding": Halt("openat", 2, ("k.krbfile",)), "opening": Halt("openat", paths=("k", "file")),
@@ -44,8 +39,7 @@ at_name = partial(at, "k")
 OTHER, GONE = named("k", lambda path: write(path, B_OLD)), at_name(os.remove)  # another file, or none, under its name
 MAKE, LINK = named("file", lambda path: write(path, OLD)), link("k", "file")  # a new file at a link's end, and the link
 
-# What replaces the file after it was loaded, or found to be missing, and whether there was one. The last ones replace
-# the new file.
+# What replaces the file after it was looked at, and whether there was one. The last replace the new file.
 REPLACED: list[tuple[str, bool, Place]] = [
     ("another file of the same bytes", True, named("k", lambda path: write(path, OLD))),
     ("a link to another file", True, named("k", lambda path: os.symlink("other", path))),
@@ -110,8 +104,7 @@ def added(name: str, wanted: Outcome, files: dict[str, bytes], after: dict[str, 
 # A removal in place, whose file does not grow, so that it is not looked at before it is synced.
 CUTS = Case("", ("ktedit", IN_PLACE, "k"), UNSAVED, {"k": NEW, "other": B_OLD}, stdin=b"cut 2\n")
 
-# Runs while which others change the name of their file: each with the call behind which that happens, the change, and
-# what is made before.
+# Runs while which others change the name of their file: behind which call, the change, and what is made before.
 MOVED: list[tuple[Case, str, Place, *tuple[Place, ...]]] = [
     # A save in place whose file has lost its name when it is synced.
     *((replace(one, name=what, files_after=after), "syncing", change) for what, cause, change, after in (
@@ -188,8 +181,7 @@ Row = tuple[Case, Halt, Change]  # a run, where it is halted, and the change the
 
 
 def of_each() -> Iterator[Row]:
-    """Yields runs of each command: one that replaces its file reports a change that it loses, and one that saves it in
-    place reports it and leaves it there, also behind the second write, and behind the cut."""
+    """Yields runs of each command: a change is lost where the file is replaced, and stays in place; both report it."""
     for case in CASES_OF_ALL:
         before, after = images(case)
         # The load reads the bytes and the end, and so does the comparison.
@@ -213,10 +205,7 @@ def of_kinds() -> Iterator[Row]:
 
 
 def of_refused() -> Iterator[Row]:
-    """Yields changes before an old byte is replaced, written over or cut off: what another program wrote stays.
-
-    What was written is taken back, unless another program has written past the old end.
-    """
+    """Yields changes before an old byte is replaced, written over or cut off: what another program wrote stays."""
     (before, longer), shorter = images(LONGER), SHORTER.files["k"]
     old_byte: Change = lambda file: file.seek(len(before) - 1) and file.write(b"\xff")
     rows = [(ADD, WATCHED, ADD_MORE, OLD + MORE, ""),

@@ -68,8 +68,7 @@ def unsaved(case: Run, name: str = "", cause: str = "EIO") -> Outcome:
 
 def faults_over(program: str, case: Run, *places: Place, left: Owned | None = None,
                 make: Callable[..., Outcome] = run_over, **options: object) -> list[str]:
-    """Returns the faults of a case in a folder where more is made before: what it does not change stays as it was, and
-    its file is owned in that way then."""
+    """Returns the faults of a case in a folder where more is made before: what it does not change stays as it was."""
     with folder_of(case.files) as folder:
         for place in places:
             place(folder)

@@ -43,7 +43,6 @@ REFUSED: list[str | Line] = [
         "ccremove": "-p b@R, -p b@R\\ c, -k old c, --v1-big --expired c, -expired c, --all-services=yes c, -a c, "
                     "--same c, --match b c",
         "hold": "-c k, -kx k, -k=yes k, --in-place=yes k, --json k, -V k, -k"}.items() for rest in lines_of(those)),
-    # Words that are not UTF-8, and empty ones.
     (b"\xff", "-k", "k"), ("klist", b"-k\xff", "k"), ("klist", "-c", "c", b"\xff"), ("klist", "-s", "--for", "", "c"),
     ("ktfind", "k", "0", "0", b"b\xff@R"), ("ktcopy", "-k", "", "k", "t"), ("ktutil", ""), ("hold", "-k", "k", ""),
     # Words that are not a version, or not an enctype, and texts that are not a name with a realm.
@@ -205,8 +204,7 @@ def offered(program: str, command: str) -> tuple[set[str], set[str]]:
 
 
 def check_ends(report: Report, program: str) -> None:
-    """Reads the end of each command's help, and runs its example beside sample files: it calls its command, and ends
-    with status 0 and without a message."""
+    """Reads the end of each command's help, and runs its example beside sample files, without a message."""
     for command in sorted(offered(program, "")[0] - {"help"}):
         statuses, _, example = HELP_END.search(helped(program, command)).groups()
         listed = "".join(line.split()[0] for line in statuses.splitlines())

@@ -35,16 +35,11 @@ class Explained:
     files: dict[str, bytes]
     stdin: bytes = b""
     status: int = 1
-    # The output, if it is known.
-    out: bytes | None = None
-    # The files afterwards, if they are checked.
-    after: dict[str, bytes] | None = None
-    # The options of the run, such as its environment.
-    options: dict[str, object] = field(default_factory=dict)
-    # A change to the folder before the run.
-    setting: Callable[[str], None] = lambda folder: None
-    # The mode of its files, if its output depends on that.
-    mode: int = 0
+    out: bytes | None = None  # the output, if it is known
+    after: dict[str, bytes] | None = None  # the files afterwards, if they are checked
+    options: dict[str, object] = field(default_factory=dict)  # the options of the run, such as its environment
+    setting: Callable[[str], None] = lambda folder: None  # a change to the folder before the run
+    mode: int = 0  # the mode of its files, if its output depends on that
 
     def wanted(self, explained: bool, out: bytes) -> Outcome:
         """Returns the expected outcome with that output."""
@@ -82,8 +77,7 @@ def case(name: str, line: str | Line, image: bytes | None, *output: tuple[str, s
 
 def over_files(command: str, line: str | Line, out: bytes | list[str] | None, *output: tuple[str, str],
                files: dict[str, bytes], **more) -> Explained:
-    """Returns a run of a command over some of those files, its output, or the lines of that, if it is known, and its
-    messages. It leaves the files, and ends with status 0, unless `more` has others."""
+    """Returns a run over some of those files, its output, or its lines, if it is known, and its messages."""
     words, out = (*command.split(), *words_of(line)), text(out) if isinstance(out, list) else out
     return Explained(shown(words), words, output, files, out=out, **{"status": 0, "after": files, **more})
 
@@ -109,8 +103,7 @@ def failed(words: Line, does: str, cause: str, image: bytes | None, **more) -> E
 
 def copy(options: str, source: bytes | None, target: bytes | None, *output: tuple[str, str], status: int = 1,
          out: list[str] | tuple[str, ...] = (), to: str = "t", **more) -> Explained:
-    """Returns a copy from `k` to a file, or to none, its messages, and the lines that it prints. If it fails, the files
-    stay as they are."""
+    """Returns a copy from `k` to a file, or to none, its messages, and the lines that it prints."""
     words = ("ktcopy", *words_of(options), "k", to)
     files = {file: image for file, image in (("k", source), (to, target)) if image is not None}
     name = f"{shown(words)}, files of {[len(image) for image in files.values()]} bytes"
@@ -171,8 +164,7 @@ CASES = [
 
 
 def check(report: Report, program: str) -> None:
-    """Sets KRBFILE_EXPLAIN: `klist -s` prints nothing with it too. A file that may not be read is read by another user
-    than root, who can read each."""
+    """Sets KRBFILE_EXPLAIN. A file that may not be read is read by another user than root, who can read each."""
     if (options := as_another(program)) is None:
         report.skip("an unreadable file", "none but root may start the program")
     else:

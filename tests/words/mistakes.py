@@ -152,7 +152,6 @@ CASES = [
           ("--explain --explain klist -k k", "--explain is given twice; see krbfile --help"),
           ("--explain klist k -x --explain", "unknown option -x; see krbfile klist --help"),
           ("ktfind k --explain", "no KVNO; see krbfile ktfind --help"))),
-    # It is an operand after `--`.
     Case("an operand", ("ktfind", "--", "--explain"), Outcome(2, err=MESSAGE), {"k": TWO}),
     Case("behind a command", ("ktfind", "k", "4", "0", "b@R", "--explain"),
          Outcome(1, err=f"krbfile: k: refused 10\nkrbfile: {code(10)}\n".encode()), {"k": TWO}),
