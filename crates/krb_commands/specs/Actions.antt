@@ -3,7 +3,6 @@ use Rattle.std.specs.Prelude.{unwrap_or, nat_eq, ◌≡◌, ℕ, List, [], ◌�
 use Rattle.std.specs.Bool.{then_some}
 use Rattle.std.specs.List.{list_any}
 use Rattle.std.specs.Result.{result_err}
-use Rattle.krb_files.specs.declared.files.Files.{Ghosts}
 use Rattle.krb_audit.specs.Selection.{needs_clock}
 use Rattle.krb_commands.specs.declared.action.Action.{Action}
 use Rattle.krb_commands.specs.declared.needs.Needs.{Needs}
@@ -13,17 +12,17 @@ use Rattle.krb_driver.specs.declared.command_line.mistake.WordFault.TheVariants 
 use Rattle.krb_driver.specs.declared.command_line.words.CommandName.{CommandName}
 use Rattle.krb_driver.specs.declared.command_line.words.CommandName.TheVariants as name
 use Rattle.krb_driver.specs.declared.error.RunError.TheVariants.{OutputIsTerminal}
-use Rattle.krb_driver.specs.declared.file_name.FileName.{FileName}
 use Rattle.krb_driver.specs.declared.file_name.NameSource.{NameSource}
 use Rattle.krb_driver.specs.declared.file_name.NameSource.TheVariants.{Word, LikePrincipal}
 use Rattle.krb_driver.specs.declared.verdict.FileKind.{FileKind}
 use Rattle.krb_driver.specs.declared.verdict.FileKind.TheVariants.{Keytab, Cache, Either}
 use Rattle.krb_driver.specs.declared.verdict.Verdict.TheVariants.{Well}
-use Rattle.krb_driver.specs.declared.command.World.{World}
 use Rattle.krb_driver.specs.FileNames.{IsNamed, bare_name, is_other_type}
 use Rattle.krb_editors.specs.Ccedit.{ccedit_fairly, ccedit_plan}
 use Rattle.krb_editors.specs.Ccremove.{ccremove_plan, ended_by, ticket_removal_of}
-use Rattle.krb_driver.specs.Commands.{Prints, Runs, always, any}
+use Rattle.krb_driver.specs.Commands.{Prints, Runs, always, any, Ghosts}
+use Rattle.krb_driver.specs.declared.file_name.FileName.{FileName}
+use Rattle.krb_driver.specs.declared.command.World.{World}
 use Rattle.krb_driver.specs.Loading.{result_map}
 use Rattle.krb_readers.specs.Klist.{file_kind, ListsAll, RunsTicketCheck, listing_of, ticket_check_of}
 use Rattle.krb_readers.specs.Overview.{SurveysAll, overview_of}

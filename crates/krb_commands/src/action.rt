@@ -168,7 +168,6 @@ fn parsed_klist<'a, M: Matches<'a>>(
     }
 }
 
-// Returns the action for the words of ktcopy.
 fn parsed_ktcopy<'a, M: Matches<'a>>(
     alloc: Global,
     matches: &M,
@@ -182,7 +181,6 @@ fn parsed_ktcopy<'a, M: Matches<'a>>(
     ))
 }
 
-// Returns the action for the words of ktmatch.
 fn parsed_ktmatch<'a, M: Matches<'a>>(
     alloc: Global,
     matches: &M,
@@ -196,7 +194,6 @@ fn parsed_ktmatch<'a, M: Matches<'a>>(
     ))
 }
 
-// Returns the action for the words of hold.
 fn parsed_hold<'a, M: Matches<'a>>(matches: &M) -> Result<Action<'a>, WordFault<'a>>
     ensures { Reads (line_mistake Hold (M.matched matches.now)) (Asks Hold (M.matched matches.now)) result }
 {
@@ -215,7 +212,6 @@ fn parsed_ktutil<'a, M: Matches<'a>>(matches: &M) -> Action<'a>
     })
 }
 
-// Returns the action for the words of a command.
 fn parsed<'a, M: Matches<'a>>(
     alloc: Global,
     command: CommandName,

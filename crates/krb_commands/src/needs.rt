@@ -46,7 +46,6 @@ pub struct Needs {
     pub left_out: Option<LeftOut>,
 }
 
-// Returns whether a line names several files.
 fn are_several(names: &[FileName<'_>]) -> bool
     ensures { result ≡ are_several names.now }
 {
@@ -94,7 +93,6 @@ fn surveys(names: &[FileName<'_>], json: bool) -> Needs
     }
 }
 
-// Returns what an action needs.
 fn action_needs(action: &Action<'_>) -> Needs
     ensures { result ≡ needs action.now }
 {

@@ -22,7 +22,6 @@ use std::slice;
 /// The name of a file that a command line leaves out, or why there is none.
 pub type DefaultName<'a> = Result<FileName<'a>, WordFault<'a>>;
 
-// Returns a file, or else the default.
 fn file_or<'a>(file: Option<FileName<'a>>, default: DefaultName<'a>) -> DefaultName<'a>
     ensures { result ≡ file_or file.entry default.entry }
 {
@@ -32,7 +31,6 @@ fn file_or<'a>(file: Option<FileName<'a>>, default: DefaultName<'a>) -> DefaultN
     }
 }
 
-// Returns the files of a line, or else the default.
 fn files_or<'n, 'a>(
     names: &'n [FileName<'a>],
     default: &'n DefaultName<'a>,

@@ -27,7 +27,6 @@ use krb_wire::NoMemory;
 use std::alloc::Allocator;
 use std::io::{Read, Write};
 
-/// The words of ccedit.
 pub const CCEDIT: CommandWords = CommandWords {
     command: CommandName::Ccedit,
     name: "ccedit",
@@ -54,7 +53,6 @@ Example: write a cache anew, without what was removed
     words: &[IN_PLACE, Word::Operand("FILE", "The file to edit")],
 };
 
-/// The command ccedit.
 #[derive(Drop)]
 struct EditCache<'f, A: Allocator> {
     file: FileName<'f>,
@@ -127,7 +125,6 @@ fn set_value<A: Allocator + Copy>(
     Ok(session.run(&removals, replies)?)
 }
 
-// Runs a line.
 fn run_line<A: Allocator + Copy>(
     alloc: A,
     session: &mut Session<Ccache<A>, A>,
@@ -187,7 +184,6 @@ fn edit<A: Allocator + Copy>(
     )
 }
 
-// Returns whether a line may change a cache.
 fn line_may_change<A: Allocator>(line: &CacheLine<A>) -> bool
     ensures { result ≡ line_may_change line.now }
 {
@@ -197,7 +193,6 @@ fn line_may_change<A: Allocator>(line: &CacheLine<A>) -> bool
     }
 }
 
-// Returns whether one of these lines may change a cache.
 fn may_any_change<A: Allocator>(lines: &[CacheLine<A>]) -> bool
     ensures { result ≡ list_any line_may_change lines.now }
 {

@@ -29,7 +29,6 @@ use std::alloc::{Allocator, Global};
 use std::io::{Read, Write};
 use std::marker::Model;
 
-/// The words of ccremove.
 pub const CCREMOVE: CommandWords = CommandWords {
     command: CommandName::Ccremove,
     name: "ccremove",
@@ -177,7 +176,6 @@ fn none_verdict<B: Allocator>(
     }
 }
 
-// Returns the selected tickets of a cache.
 fn select<A: Allocator + Copy, B: Allocator>(
     alloc: A,
     command: &RemoveTickets<'_, B>,
@@ -187,16 +185,12 @@ fn select<A: Allocator + Copy, B: Allocator>(
     ensures { IfOk result (SelectsTickets (label_of command.now.are_several file.entry.name.now)
         command.now.options.now.servers command.now.options.now.all_services command.now.ended_by cache.now.state) }
 {
-    let RemoveTickets {
-        options,
-        ended_by,
-        are_several,
-    } = *command;
-    let label = label_of(alloc, are_several, file)?;
+    let options = command.options;
+    let label = label_of(alloc, command.are_several, file)?;
     let criteria = TicketCriteria {
         servers: &options.servers,
         all_services: options.all_services,
-        ended_by,
+        ended_by: command.ended_by,
     };
     select_tickets(alloc, &label, cache, &criteria)
 }

@@ -16,7 +16,6 @@ use krb_wire::{NoMemory, USUAL_LIMIT};
 use std::alloc::Allocator;
 use std::io::Read;
 
-/// Returns whether an event may change a file.
 pub fn may_change<I>(event: &Event<I>) -> bool
     ensures { result ≡ may_change event.now }
 {
@@ -26,14 +25,12 @@ pub fn may_change<I>(event: &Event<I>) -> bool
     }
 }
 
-/// Returns whether one of these events may change a file.
 pub fn may_any_change<I>(events: &[Event<I>]) -> bool
     ensures { result ≡ list_any may_change events.now }
 {
     events.iter().any(may_change)
 }
 
-// Returns whether a reply reports a change of the file.
 fn is_change<A: Allocator>(reply: &Reply<A>) -> bool
     ensures { result ≡ is_change (content_of reply.now) }
 {

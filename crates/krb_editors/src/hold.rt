@@ -1,6 +1,6 @@
 //! hold: prints the image of a file to another program, and saves the one that this gives back.
 
-ghost use Rattle.std.specs.Prelude.{◌≡◌, ◌⊎◌, ◌∷◌, [], bytes_eq, Err, MatchResult, Some, option_map};
+ghost use Rattle.std.specs.Prelude.{◌≡◌, ◌⊎◌, bytes_eq, Err, Some, option_map};
 ghost use Rattle.krb_driver.specs.declared.error.RunError.TheVariants.{NoMemory};
 ghost use Rattle.krb_driver.specs.Loading.{EndsLoads, result_map};
 ghost use Rattle.krb_files.specs.Files.{answer_of};
@@ -25,16 +25,6 @@ use krb_wire::USUAL_LIMIT;
 use std::alloc::Allocator;
 use std::io::{Read, Write};
 
-// Returns the image of an empty keytab.
-fn empty_image<A: Allocator>(alloc: A) -> Result<Vec<u8, A>, RunError>
-    ensures { MatchResult result (λ image. image.items ≡ 5 ∷ 2 ∷ []) (λ error. error ≡ NoMemory) }
-{
-    match Vec::from_slice(alloc, &[5, 2]) {
-        Ok(image) => Ok(image),
-        Err(_) => Err(RunError::NoMemory),
-    }
-}
-
 impl HoldKind {
     // Gives the image of what was loaded. A missing keytab that is not to be saved in place gives that of an empty one.
     fn opened<A: Allocator + Copy>(
@@ -50,7 +40,7 @@ impl HoldKind {
         match loaded {
             Ok(image) => whole(self, image),
             Err(LoadFault::Missing) if matches!(self, HoldKind::Keytab(_)) && !in_place => {
-                empty_image(alloc)
+                Vec::from_slice(alloc, &[5, 2]).map_err(|_| RunError::NoMemory)
             }
             Err(fault) => Err(RunError::from(fault)),
         }
@@ -85,13 +75,10 @@ impl<A: Allocator + Copy> Opener<A> for HoldKind {
 fn check_hold<'a, F: Files>(files: &mut F, file: FileName<'a>) -> Result<(), FileError<'a>>
     ensures { ChecksHold F.Files file.entry.name.now files.old (end_of result) files.new }
 {
-    match files.check_hold() {
-        Ok(()) => Ok(()),
-        Err(fault) => Err(FileError {
-            file: file.name,
-            error: RunError::from(fault),
-        }),
-    }
+    files.check_hold().map_err(|fault| FileError {
+        file: file.name,
+        error: RunError::from(fault),
+    })
 }
 
 // Reads the input to its end, and returns the image that it gives, unless it is empty.

@@ -33,7 +33,6 @@ use std::alloc::{Allocator, Global};
 use std::io::{Read, Write};
 use std::marker::Model;
 
-/// The words of ktcopy.
 pub const KTCOPY: CommandWords = CommandWords {
     command: CommandName::Ktcopy,
     name: "ktcopy",
@@ -167,7 +166,6 @@ pub fn copy_options<'a, M: Matches<'a>>(
     })
 }
 
-/// The command ktcopy.
 #[derive(Clone, Copy)]
 struct CopyEntries<'f, B: Allocator> {
     options: &'f CopyOptions<B>,
@@ -175,7 +173,6 @@ struct CopyEntries<'f, B: Allocator> {
     to: FileName<'f>,
 }
 
-// Returns whether some names, kvnos or enctypes are given.
 fn asks_for_some<B: Allocator>(selection: &Selection<B>) -> bool
     ensures { result ≡ asks_for_some selection.now }
 {

@@ -20,7 +20,6 @@ use std::alloc::{Allocator, Global};
 use std::io::{Read, Write};
 use std::marker::Model;
 
-/// The words of ktdiff.
 pub const KTDIFF: CommandWords = CommandWords {
     command: CommandName::Ktdiff,
     name: "ktdiff",
@@ -84,7 +83,6 @@ pub fn diff_options<'a, M: Matches<'a>>(
     })
 }
 
-/// The command ktdiff.
 #[derive(Clone, Copy)]
 struct DiffEntries<'f, B: Allocator> {
     options: &'f DiffOptions<B>,

@@ -21,7 +21,6 @@ use krb_wire::{NoMemory, Order};
 use std::alloc::Allocator;
 use std::io::{Read, Write};
 
-/// The words of ktedit.
 pub const KTEDIT: CommandWords = CommandWords {
     command: CommandName::Ktedit,
     name: "ktedit",
@@ -52,7 +51,6 @@ Example: remove the record at byte 53
     ],
 };
 
-/// The command ktedit.
 #[derive(Drop)]
 struct EditKeytab<'f, A: Allocator> {
     v1_order: Order,

@@ -25,7 +25,6 @@ use krb_wire::NoMemory;
 use std::alloc::Allocator;
 use std::io::{Read, Write};
 
-/// The command ktremove.
 #[derive(Clone, Copy)]
 struct RemoveEntries<'f, B: Allocator> {
     options: &'f RemoveOptions<B>,
@@ -71,7 +70,6 @@ fn none_verdict<B: Allocator>(
     }
 }
 
-// Returns the selected entries of a keytab.
 fn selected<A: Allocator + Copy, B: Allocator>(
     alloc: A,
     command: &RemoveEntries<'_, B>,
@@ -81,13 +79,9 @@ fn selected<A: Allocator + Copy, B: Allocator>(
     ensures { IfOk result (Selects (label_of command.now.are_several file.entry.name.now)
         command.now.options.now.selection command.now.time keytab.now.state) }
 {
-    let RemoveEntries {
-        options,
-        time,
-        are_several,
-    } = *command;
-    let label = label_of(alloc, are_several, file)?;
-    select(alloc, &label, keytab, &options.selection, time)
+    let options = command.options;
+    let label = label_of(alloc, command.are_several, file)?;
+    select(alloc, &label, keytab, &options.selection, command.time)
 }
 
 // Removes the selected entries from a keytab, or only lists them in a dry run.

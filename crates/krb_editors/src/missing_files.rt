@@ -1,46 +1,26 @@
 //! Looks for several files before anything is done with one of them.
 
-ghost use Rattle.std.specs.Prelude.{◌≡◌, length, nat_lt};
-ghost use Rattle.krb_editors.specs.MissingFiles.{LooksAt, LooksIf, LooksFor, is_missing, missing_error};
+ghost use Rattle.std.specs.Prelude.{length, nat_lt};
+ghost use Rattle.krb_editors.specs.MissingFiles.{LooksAt, LooksIf, LooksFor};
 
 use krb_driver::{Details, ErrorOutput, FileName, RunError, World, report};
 use krb_files::{Files, Node};
 use std::io::{Read, Write};
-
-// Returns whether a load would find no file of that name, under which that lies.
-fn is_missing(file: FileName<'_>, node: Node) -> bool
-    ensures { result ≡ is_missing file.entry node }
-{
-    file.is_other_type || matches!(node, Node::Nothing)
-}
-
-// Returns the error of that load.
-fn missing_error(file: FileName<'_>) -> RunError
-    ensures { result ≡ missing_error file.entry }
-{
-    if file.is_other_type {
-        RunError::OtherType(file.kind, file.source)
-    } else {
-        RunError::NoSuchFile(file.source)
-    }
-}
 
 // Looks for a file, and reports it if it is missing. Returns whether it is.
 fn look_for<F: Files, E: Write>(files: &F, file: FileName<'_>, err: &mut ErrorOutput<E>) -> bool
     ensures { LooksAt F.Files files.now file.entry err.old err.new result }
 {
     let node = files.node(file.name);
-    if !is_missing(file, node) {
+    let error = if file.is_other_type {
+        RunError::OtherType(file.kind, file.source)
+    } else if matches!(node, Node::Nothing) {
+        RunError::NoSuchFile(file.source)
+    } else {
         return false;
-    }
-    let error = Err(missing_error(file));
-    report(
-        error,
-        file.name.as_bytes(),
-        None,
-        Details::unsaved(None),
-        err,
-    );
+    };
+    let (name, details) = (file.name.as_bytes(), Details::unsaved(None));
+    report(Err(error), name, None, details, err);
     true
 }
 

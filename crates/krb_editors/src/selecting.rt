@@ -1,6 +1,6 @@
 //! Which entries the words of a command select, and their new name and version.
 
-ghost use Rattle.std.specs.Prelude.{◌≡◌, false, IfOk, IsOkAnd, codes, option_map};
+ghost use Rattle.std.specs.Prelude.{◌≡◌, codes, option_map};
 ghost use Rattle.krb_wire.specs.Reading.{principal_parts};
 ghost use Rattle.krb_driver.specs.Mistakes.{first_value};
 ghost use Rattle.krb_driver.specs.Spelled.{Spells, SpellsInMemory};
@@ -11,11 +11,9 @@ use krb_driver::{
     Matches, Mistake, Spelled, Word, first_value, spelled_asked, spelled_etypes, spelled_name,
     spelled_version, times_given,
 };
-use krb_names::AskedNames;
 use krb_wire::{NoMemory, Principal};
 use std::alloc::{Allocator, Global};
 
-/// The option `-p`, `--principal`.
 pub const OF_PRINCIPAL: Word = Word::Valued(
     "principal",
     'p',
@@ -23,7 +21,6 @@ pub const OF_PRINCIPAL: Word = Word::Valued(
     "Entries of that principal, with its realm; may be repeated",
 );
 
-/// The option `-e`, `--enctype`.
 pub const OF_ENCTYPE: Word = Word::Valued(
     "enctype",
     'e',
@@ -31,10 +28,8 @@ pub const OF_ENCTYPE: Word = Word::Valued(
     "Entries of that encryption type, by name or number; weak: of any weak one; may be repeated",
 );
 
-/// The flag `--none-ok`.
 pub const NONE_OK: Word = Word::LongFlag("none-ok", "It is no failure if nothing is selected");
 
-/// Returns whether an option is given.
 pub fn is_given<'a, M: Matches<'a>>(matches: &M, name: &str) -> bool
     ensures { result ≡ is_given (M.matched matches.now) name.now }
 {
@@ -77,25 +72,6 @@ pub fn spelled_kvno<'a, M: Matches<'a>>(
     }
 }
 
-// Returns the selection by kvno, name and enctype, unless memory ran out on the way.
-fn selection_of(
-    kvno: SelectedKvno,
-    names: Result<AskedNames<Global>, NoMemory>,
-    enctypes: Result<Vec<u16>, NoMemory>,
-) -> Result<Selection<Global>, NoMemory>
-    ensures names { IfOk result (λ selection. IsOkAnd names (λ names. names ≡ selection.names)) }
-    ensures enctypes { IfOk result (λ selection. IsOkAnd enctypes (λ enctypes. enctypes.items ≡ selection.enctypes)) }
-    ensures kvno { IfOk result (λ selection. selection.kvno ≡ kvno) }
-    ensures same { IfOk result (λ selection. selection.only_same ≡ false) }
-{
-    Ok(Selection {
-        names: names?,
-        kvno,
-        enctypes: enctypes?,
-        only_same: false,
-    })
-}
-
 /// Returns the selection of these kvnos, and of the enctypes and names that `-e`, `-p` and `--match` spell.
 pub fn spelled_selection<'a, M: Matches<'a>>(
     alloc: Global,
@@ -106,7 +82,15 @@ pub fn spelled_selection<'a, M: Matches<'a>>(
 {
     let enctypes = spelled_etypes(alloc, matches, "enctype")?;
     let names = spelled_asked(alloc, matches, "principal")?;
-    Ok(selection_of(kvno, names, enctypes))
+    match (names, enctypes) {
+        (Ok(names), Ok(enctypes)) => Ok(Ok(Selection {
+            names,
+            kvno,
+            enctypes,
+            only_same: false,
+        })),
+        _ => Ok(Err(NoMemory)),
+    }
 }
 
 /// Returns the new name of what is copied, if one is given.
@@ -120,10 +104,7 @@ pub fn spelled_new_name<'a, M: Matches<'a>>(
     let Some(word) = first_value(matches, "as") else {
         return Ok(Ok(None));
     };
-    match spelled_name(alloc, word)? {
-        Ok(name) => Ok(Ok(Some(name))),
-        Err(NoMemory) => Ok(Err(NoMemory)),
-    }
+    Ok(spelled_name(alloc, word)?.map(Some))
 }
 
 /// Returns the new version of what is copied, if one is given.

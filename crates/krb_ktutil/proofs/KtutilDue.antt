@@ -1,6 +1,5 @@
 -- What a line of ktutil leaves, and that it is handled as is due over honest files.
-use Rattle.krb_ktutil.proofs.Cited.{◌≡◌, inl, inr, ℕ, Bool, true, false, List, [], ◌∷◌, length, refl, sym, arith, Result, KeytabState, Ghosts, Ends, LineFault, Effect, Awaited, words, Awaiting, KtutilState, Came, line_faults, plan_of, Answer, Holds, Loads, by, follow, bare_name, is_other_type, keytab_in, Command, ReadFile, WriteFile, command_of, LinePlan, with_entries, command_plan, plan_by, words_plan, MakesLine, Spares, cond_both, ComesDue, HandlesLine, HandlesNext, goes_on, ◌&&◌, not, Lasts, Some, Talk, comes, max, loaded-lasts, RunError, Keytab, finishes-keeps, finishes-lasts, Finishes}
-use Rattle.krb_driver.specs.declared.command.RunEnd.{RunEnd}
+use Rattle.krb_ktutil.proofs.Cited.{RunEnd, ◌≡◌, inl, inr, ℕ, Bool, true, false, List, [], ◌∷◌, length, refl, sym, arith, Result, Ghosts, Ends, LineFault, Effect, Awaited, words, Awaiting, KtutilState, Came, line_faults, plan_of, Answer, Holds, Loads, by, follow, is_other_type, Command, ReadFile, WriteFile, command_of, LinePlan, command_plan, plan_by, words_plan, MakesLine, Spares, cond_both, ComesDue, HandlesLine, HandlesNext, goes_on, ◌&&◌, not, Lasts, Some, Talk, comes, max, loaded-lasts, Keytab, finishes-keeps, finishes-lasts, Finishes}
 
 -- ---- what lines leave
 
@@ -14,15 +13,9 @@ AllCareful s (Holds held name plan) = AllCareful s plan
 AllCareful s (Loads name then_) = (answer : Answer) → AllCareful s (then_ answer)
 
 module _ (s : KtutilState) (number : ℕ) where
-  entries-careful : (name : List ℕ) (given : Result KeytabState RunError) → Careful s (with_entries s number name given)
-  entries-careful name given = grind arith
-
-  write-careful : (word : List ℕ) → AllCareful s (command_plan s number (WriteFile word))
-  write-careful word = grind arith
-
   command-careful : (command : Command) → AllCareful s (command_plan s number command)
-  command-careful (ReadFile word) = cond_both (is_other_type Keytab word) _ _ (AllCareful s) (λ _. (refl, λ is. refl)) (λ _ answer. entries-careful (bare_name Keytab word) (keytab_in s.order answer))
-  command-careful (WriteFile word) = write-careful word
+  command-careful (ReadFile word) = cond_both (is_other_type Keytab word) _ _ (AllCareful s) (λ _. (refl, λ is. refl)) (λ _ answer. grind arith)
+  command-careful (WriteFile word) = grind arith
   command-careful command = refl
 
   words-careful : (line : List (List ℕ)) (given : Result Command LineFault) → AllCareful s (words_plan s number line given)

@@ -1,10 +1,8 @@
 -- A line was made by its plan, from its steps, and with the entries of a keytab.
-use Rattle.krb_ktutil.proofs.Cited.{arith, ◌≡◌, ◌∙◌, sym, ℕ, List, [], ◌∷◌, Some, refl, ap, Result, Ok, Err, EntryParts, KeytabState, Code, Added, with_added, map, option_map, filter_map, entry_at, store_of, entries, RefusesAdded, inl, inr, Bool, false, Ghosts, Ends, LineFault, Effect, Fails, Awaited, KtutilState, Came, fails, line_faults, EndsAt, IsCame, Answer, Loads, by, has_type, EndsLoads, GivesOrIsSpent, AwaitKey, Command, WriteFile, after, asks_for_password, LinePlan, after_fault, command_plan, words_plan, writing_plan, Attempts, Comes, MakesLine, RunsOut, Tries, Record, records, LineRefusal, Reads, RunError, fault_error, TurnsHold}
+use Rattle.krb_ktutil.proofs.Cited.{placed_entries, put_result, Refusal, arith, ◌≡◌, ◌∙◌, sym, ℕ, List, [], ◌∷◌, Some, refl, ap, Result, Ok, Err, EntryParts, KeytabState, Code, Added, with_added, map, option_map, filter_map, entry_at, store_of, entries, RefusesAdded, inl, inr, Bool, false, Ghosts, Ends, LineFault, Effect, Fails, Awaited, KtutilState, Came, fails, line_faults, EndsAt, IsCame, Answer, Loads, by, has_type, EndsLoads, GivesOrIsSpent, AwaitKey, Command, WriteFile, after, asks_for_password, LinePlan, after_fault, command_plan, words_plan, writing_plan, Attempts, Comes, MakesLine, RunsOut, Tries, Record, records, LineRefusal, Reads, RunError, fault_error, TurnsHold}
 use Rattle.krb_wire.specs.declared.format.KtFormat.{KtFormat}
-use Rattle.krb_keytab.specs.Find.{PlacedEntry, placed_entries}
-use Rattle.krb_keytab.specs.Changes.{put_result}
+use Rattle.krb_keytab.specs.Find.{PlacedEntry}
 use Rattle.krb_walk.specs.Rules.{PutGives}
-use Rattle.krb_walk.specs.declared.refusal.Refusal.{Refusal}
 use Rattle.krb_files.specs.declared.files.LoadFault.TheVariants as load
 use Rattle.krb_text.specs.declared.line_fault.LineRefusal.TheVariants as refusal
 use Rattle.krb_driver.specs.declared.error.RunError.TheVariants as error

@@ -1,7 +1,6 @@
 -- The lines of ktutil, one after the other, and their prompts.
-use Rattle.krb_ktutil.proofs.Cited.{◌≡◌, ℕ, Bool, true, false, List, [], ◌++◌, refl, Err, ErrorWatch, Prompts, Writes-nothing, PromptsOn, inl, inr, ◌+◌, ◌<◌, ◌≤◌, ◌∷◌, length, length-append, arith, max, Option, None, Ghosts, input_error, error_status, Grows, Talk, first_talk, ◌≢◌, ◌||◌, Consumes, InputParts, HasNoMore, IsWithin, most_bytes, EndsTalk, TalksOver, prompt_of, Source, is_failed, Order, LoadFault, HandlesNext, RunsKtutil, Details, nat_tests, ReportsEnd, ReadsLine, append_assoc, append-nil}
+use Rattle.krb_ktutil.proofs.Cited.{World, ◌≡◌, ℕ, Bool, true, false, List, [], ◌++◌, refl, Err, ErrorWatch, Prompts, Writes-nothing, PromptsOn, inl, inr, ◌+◌, ◌<◌, ◌≤◌, ◌∷◌, length, length-append, arith, max, Option, None, Ghosts, input_error, error_status, Grows, Talk, first_talk, ◌≢◌, ◌||◌, Consumes, InputParts, HasNoMore, IsWithin, most_bytes, EndsTalk, TalksOver, prompt_of, Source, is_failed, Order, LoadFault, HandlesNext, RunsKtutil, Details, nat_tests, ReportsEnd, ReadsLine, append_assoc, append-nil}
 use Rattle.krb_files.specs.declared.files.LoadFault.TheVariants.{Missing, TooLarge}
-use Rattle.krb_driver.specs.declared.command.World.{World}
 use Rattle.krb_ktutil.proofs.InputLemmas.{HasRead, HasRead-end, HasRead-first, HasRead-line, consumed, consumed_as, due_of, if_some}
 
 -- a prompt was written

@@ -1,5 +1,9 @@
 -- The first word of a line, the words after it, and the options among them.
 use Rattle.krb_ktutil.proofs.Cited.{◌≡◌, ℕ, ◌<◌, ◌≤◌, Bool, true, false, not, List, [], ◌∷◌, length, take, drop, refl, arith, ◌&&◌, words, unindented, zero, suc, get_or, ◌==◌, is_blank, parts_from, is_word, size_from, word_size, Some, options_in, AddOptions, is_new_key, with_option, nil_from_length}
+use Rattle.std.proofs.lemmas.Str.{IsUtf8-from_is_utf8, is_utf8-from_IsUtf8}
+
+-- a word is UTF-8 or is not
+pub ruleset utf8 = (IsUtf8-from_is_utf8, is_utf8-from_IsUtf8)
 
 -- the first part of a text has n bytes
 record FirstPart (text : List ℕ) (quoted : Bool) (n : ℕ) : Type 0 where

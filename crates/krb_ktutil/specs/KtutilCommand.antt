@@ -6,15 +6,14 @@ use Rattle.krb_wire.specs.Names.{name_text}
 use Rattle.krb_wire.specs.Spelling.{Parts}
 use Rattle.krb_wire.specs.Reading.{◌>>=◌}
 use Rattle.krb_keytab_text.specs.declared.columns.KtColumns.{KtColumns}
-use Rattle.krb_text.specs.declared.line_fault.LineFault.{LineFault}
 use Rattle.krb_text.specs.declared.line_fault.LineFault.TheVariants.{UnknownWord, WordCount, BadSlot, BadFileName}
 use Rattle.krb_ktutil.specs.declared.ktutil.verb.Verb.{Verb}
 use Rattle.krb_ktutil.specs.declared.ktutil.verb.Verb.TheVariants as verb
 use Rattle.krb_text.specs.Word.{number_word, etype_word, name_word}
-use Rattle.krb_driver.specs.declared.error.RunError.{RunError}
+use Rattle.krb_driver.specs.RunErrors.{LineFault}
+pub use Rattle.krb_driver.specs.declared.error.RunError.{RunError}
 use Rattle.krb_driver.specs.declared.error.RunError.TheVariants.{AsksForHelp, FaultyLine, FromPassword}
 
--- a space or a tab
 abbrev pub is_blank : ℕ → Bool
 is_blank b = b == 32 || b == 9
 
@@ -24,7 +23,6 @@ parts_from [] quoted = [] ∷ []
 parts_from (b ∷ bs) true = onto_first b (parts_from bs false)
 parts_from (b ∷ bs) false = if is_blank b then [] ∷ parts_from bs false else onto_first b (parts_from bs (b == 92))
 
--- a part is not empty
 abbrev pub is_word : List ℕ → Bool
 is_word [] = false
 is_word (b ∷ bs) = true
@@ -60,7 +58,6 @@ pub record Awaited : Type 0 where
   pub version : ℕ
   pub enctype : ℕ
 
--- the prompt for the key of a name
 abbrev pub key_prompt : Parts → List ℕ
 key_prompt principal = codes "Key for " ++ (name_text principal ++ codes " (hex): ")
 
@@ -125,7 +122,6 @@ abbrev pub columns_in : KtColumns → List (List ℕ) → Option KtColumns
 columns_in columns [] = Some columns
 columns_in columns (option ∷ options) = with_column columns option >>= λ more. columns_in more options
 
--- a listing
 abbrev pub listing : List (List ℕ) → Result Command LineFault
 listing words = after (λ columns. Ok (ListSlots columns)) (ok_or (columns_in plain_columns words) WordCount)
 
@@ -152,7 +148,6 @@ pub record AddOptions : Type 0 where
   pub version : Option (List ℕ)
   pub enctype : Option (List ℕ)
 
--- no options
 abbrev pub no_options : AddOptions
 no_options = record { key = false; name = None; version = None; enctype = None }
 
@@ -194,7 +189,6 @@ awaited_of words = after (λ given. awaited_by given.key given.name given.versio
 abbrev pub addition : List (List ℕ) → Result Command LineFault
 addition words = after (λ awaited. Ok (AwaitKey awaited)) (awaited_of words)
 
--- one of the words is `-password`
 abbrev pub has_password : List (List ℕ) → Bool
 has_password words = list_any (λ word. bytes_eq word (codes "-password")) words
 
@@ -211,7 +205,6 @@ command_by count (Some verb.Delete) words = after (λ slot. Ok (DeleteSlot slot)
 command_by count (Some verb.Clear) words = alone ClearList words
 command_by count (Some verb.Quit) words = alone Quit words
 
--- the command is an addition
 abbrev pub is_addition : Option Verb → Bool
 is_addition (Some verb.Add) = true
 is_addition verb = false

@@ -1,39 +1,34 @@
 -- What a line comes to, and what it does to the files.
 use Rattle.std.specs.Prelude.{ℕ, ◌-◌, ◌==◌, Bool, true, false, List, [], ◌∷◌, ◌++◌, length, remove, Option, None, Some, is_some, Result, Ok, Err, if◌then◌else◌, ◌≡◌, ◌⊎◌, IsTrue}
-use Rattle.krb_wire.specs.declared.format.Order.{Order}
-use Rattle.krb_walk.specs.declared.refusal.Code.{Code}
+pub use Rattle.krb_wire.specs.declared.format.Order.{Order}
 use Rattle.krb_walk.specs.declared.refusal.Code.TheVariants as code
 use Rattle.krb_walk.specs.Store.{fault_of}
-use Rattle.krb_keytab.specs.Entry.{EntryParts}
-use Rattle.krb_keytab.specs.Store.{KeytabState, image_of, store_of, entries}
-use Rattle.krb_keytab.specs.Find.{placed_entries}
-use Rattle.krb_keytab.specs.Changes.{put_result}
-use Rattle.krb_files.specs.Plan.{Plan, Ends, Holds, Loads, Faults, Loaded, by}
-use Rattle.krb_text.specs.declared.line_fault.LineFault.{LineFault}
+pub use Rattle.krb_keytab.specs.Entry.{EntryParts}
+pub use Rattle.krb_keytab.specs.Store.{KeytabState, image_of, store_of, entries}
+pub use Rattle.krb_keytab.specs.Find.{placed_entries}
+pub use Rattle.krb_keytab.specs.Changes.{put_result}
+pub use Rattle.krb_files.specs.Plan.{Plan, Ends, Holds, Loads, Faults, Loaded, by}
 use Rattle.krb_text.specs.declared.line_fault.LineFault.TheVariants.{BadKey}
-use Rattle.krb_ktutil.specs.declared.ktutil.awaiting.Awaiting.{Awaiting}
-use Rattle.krb_ktutil.specs.declared.ktutil.awaiting.Awaiting.TheVariants.{Nothing, Key, Password}
-use Rattle.krb_driver.specs.declared.error.RunError.{RunError}
+pub use Rattle.krb_ktutil.specs.declared.ktutil.awaiting.Awaiting.{Awaiting}
+pub use Rattle.krb_ktutil.specs.declared.ktutil.awaiting.Awaiting.TheVariants.{Nothing, Key, Password}
 use Rattle.krb_driver.specs.declared.error.RunError.TheVariants as error
 use Rattle.krb_driver.specs.declared.file_name.NameSource.TheVariants.{Word}
-use Rattle.krb_driver.specs.declared.verdict.FileKind.TheVariants.{Keytab}
-use Rattle.krb_driver.specs.declared.verdict.Verdict.{Verdict}
+pub use Rattle.krb_driver.specs.declared.verdict.FileKind.TheVariants.{Keytab}
 use Rattle.krb_driver.specs.declared.verdict.Verdict.TheVariants.{Well, NoEntry}
-use Rattle.krb_driver.specs.Commands.{Effect, Fails, Displays, Saves, text, IsSpent}
+pub use Rattle.krb_driver.specs.Commands.{Effect, Fails, Displays, Saves, text, IsSpent, Ghosts, Answer}
 use Rattle.krb_driver.specs.Composing.{text_effect}
-use Rattle.krb_driver.specs.FileNames.{bare_name, has_type, is_other_type}
-use Rattle.krb_driver.specs.Loading.{keytab_in, keytab_or_empty, result_map}
-use Rattle.krb_driver.specs.RunErrors.{hiding}
+pub use Rattle.krb_driver.specs.FileNames.{bare_name, has_type, is_other_type}
+pub use Rattle.krb_driver.specs.Loading.{keytab_in, keytab_or_empty, result_map}
+pub use Rattle.krb_driver.specs.RunErrors.{hiding, Code, LineFault}
+use Rattle.krb_driver.specs.declared.verdict.Verdict.{Verdict}
 use Rattle.krb_audit.specs.Findings.{hides_added}
 use Rattle.krb_keytab_text.specs.Listing.{slot_text}
 use Rattle.krb_text.specs.Word.{key_word}
-use Rattle.krb_ktutil.specs.KtutilCommand.{fault_error, is_word, trimmed, words, Awaited, Command, Skip, ListSlots, ReadFile, WriteFile, AwaitKey, DeleteSlot, ClearList, Quit, asks_for_password, command_of}
-use Rattle.krb_walk.specs.declared.refusal.Refusal.{Refusal}
+pub use Rattle.krb_ktutil.specs.KtutilCommand.{RunError, key_prompt, fault_error, is_word, trimmed, words, Awaited, Command, Skip, ListSlots, ReadFile, WriteFile, AwaitKey, DeleteSlot, ClearList, Quit, asks_for_password, command_of}
+pub use Rattle.krb_walk.specs.declared.refusal.Refusal.{Refusal}
 use Rattle.krb_walk.specs.declared.refusal.Refusal.TheVariants as refusal
-use Rattle.krb_files.specs.declared.files.Files.{Ghosts}
 use Rattle.krb_files.specs.Files.{CountsFailure}
-use Rattle.krb_files.specs.Loading.{Answer}
-use Rattle.krb_text.specs.declared.line_fault.LineRefusal.{LineRefusal}
+pub use Rattle.krb_text.specs.declared.line_fault.LineRefusal.{LineRefusal}
 use Rattle.krb_text.specs.declared.line_fault.LineRefusal.TheVariants as line
 use Rattle.krb_ktutil.specs.declared.ktutil.line.Line.{Line}
 
@@ -60,7 +55,6 @@ pub record Came : Type 0 where
   pub quits : Bool
   pub takes : Bool
 
--- the plan of a line of ktutil
 abbrev pub LinePlan : Type 0
 LinePlan = Plan Came
 
@@ -68,7 +62,6 @@ LinePlan = Plan Came
 abbrev pub prints : KtutilState → List ℕ → Came
 prints s out = record { state = s; effect = Displays [] (text out Well); quits = false; takes = false }
 
--- the line prints nothing
 abbrev pub becomes : KtutilState → Came
 becomes s = prints s []
 
@@ -102,7 +95,6 @@ pub record Added : Type 0 where
 abbrev pub saved_verdict : Added → Verdict
 saved_verdict x = if length (placed_entries x.keytab) == 0 then NoEntry else hiding (hides_added x.keytab x.places) Well
 
--- a keytab before the first addition
 abbrev pub none_added : KeytabState → Added
 none_added k = record { keytab = k; places = [] }
 
@@ -171,7 +163,6 @@ plan_by s now number line Nothing = words_plan s number (words line) (command_of
 plan_by s now number line (Key x) = Ends (with_key s number (words line) x now (key_line x.enctype line))
 plan_by s now number line Password = Ends (becomes (record s { awaiting = Nothing }))
 
--- the plan of a line of ktutil
 abbrev pub plan_of : KtutilState → ℕ → ℕ → List ℕ → LinePlan
 plan_of s now number line = plan_by s now number line s.awaiting
 

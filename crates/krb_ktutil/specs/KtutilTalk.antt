@@ -1,24 +1,17 @@
 -- A run of ktutil, line by line, with its prompts.
 use Rattle.std.specs.Prelude.{◌≡◌, ℕ, Bool, true, false, List, ◌∷◌, [], ◌++◌, codes, ◌≢◌, ◌⊎◌, ◌||◌, ◌&&◌, not, ◌+◌, ◌<◌, ◌≤◌, max, take, IsTrue, IsFalse, length, Option, Some, None, IfSome, Err}
-use Rattle.krb_driver.specs.Runs.{ErrorWatch, Writes, ReportsEnd}
-use Rattle.krb_ktutil.specs.declared.ktutil.awaiting.Awaiting.{Awaiting}
-use Rattle.krb_ktutil.specs.declared.ktutil.awaiting.Awaiting.TheVariants.{Nothing, Key, Password}
-use Rattle.krb_wire.specs.declared.format.Order.{Order}
-use Rattle.krb_files.specs.declared.files.Files.{Ghosts}
-use Rattle.krb_files.specs.declared.files.LoadFault.{LoadFault}
+pub use Rattle.krb_driver.specs.Runs.{ErrorWatch, Writes, ReportsEnd}
 use Rattle.krb_files.specs.declared.files.LoadFault.TheVariants.{Missing, TooLarge}
-use Rattle.std.specs.Io.KnownBytes.{Consumes}
-use Rattle.krb_files.specs.Bytes.{Watch, Source, is_failed, ConsumesAtMost}
-use Rattle.krb_files.specs.Plan.{follow}
-use Rattle.krb_driver.specs.declared.command.RunEnd.{RunEnd}
-use Rattle.krb_driver.specs.declared.reporting.details.Details.{Details}
-use Rattle.krb_driver.specs.Commands.{Finishes, Keeps, Effect}
-use Rattle.krb_ktutil.specs.KtutilPlan.{KtutilState, plan_of, ComesDue, MakesLine, Spares}
-use Rattle.krb_ktutil.specs.InputLines.{CutsOff, lines_of}
-use Rattle.krb_files.specs.Loading.{most_bytes}
-use Rattle.krb_driver.specs.RunErrors.{Ending, error_status, input_error, is_spent}
-use Rattle.krb_ktutil.specs.KtutilCommand.{Awaited, key_prompt}
-use Rattle.krb_driver.specs.declared.command.World.{World}
+pub use Rattle.std.specs.Io.KnownBytes.{Consumes}
+pub use Rattle.krb_files.specs.Bytes.{Watch, Source, is_failed, ConsumesAtMost}
+pub use Rattle.krb_driver.specs.declared.reporting.details.Details.{Details}
+pub use Rattle.krb_driver.specs.Commands.{Finishes, Keeps, Effect, Ghosts, follow}
+pub use Rattle.krb_driver.specs.declared.command.RunEnd.{RunEnd}
+pub use Rattle.krb_driver.specs.declared.command.World.{World}
+use Rattle.krb_ktutil.specs.KtutilPlan.{Awaited, Awaiting, Key, Nothing, Order, Password, key_prompt, KtutilState, plan_of, ComesDue, MakesLine, Spares}
+pub use Rattle.krb_ktutil.specs.InputLines.{CutsOff, lines_of}
+pub use Rattle.krb_files.specs.Loading.{most_bytes}
+pub use Rattle.krb_driver.specs.RunErrors.{Ending, error_status, input_error, is_spent, LoadFault}
 
 -- the prompt before a line
 abbrev pub prompt_of : Awaiting Awaited → List ℕ

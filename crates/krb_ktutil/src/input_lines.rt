@@ -22,10 +22,6 @@ pub struct InputLines<A: Allocator> {
 }
 
 impl<A: Allocator> Model for InputLines<A> {
-    ghost use Rattle.std.specs.Prelude.{◌≤◌, ◌+◌, slice_range, vec_len};
-    ghost use Rattle.krb_ktutil.specs.InputLines.{InputParts};
-    ghost use Rattle.krb_files.specs.Loading.{most_bytes};
-
     ghost Value = { InputParts };
 
     ghost view = { λ i. record {

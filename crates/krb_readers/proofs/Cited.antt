@@ -19,9 +19,9 @@ pub use Rattle.krb_ccache.specs.Store.{placed_credentials, PlacedCredential, Cac
 pub use Rattle.krb_readers.specs.Klist.{SeesSoFar, listed_text, listing_page, gap, has_ticket, is_valid_after, last_end, later, latest, keytab_shown, page}
 pub use Rattle.krb_driver.proofs.Making.{makes-end}
 pub use Rattle.std.proofs.lemmas.Result.{err_from_is_err_and}
-pub use Rattle.krb_readers.specs.Ktmatch.{MatchesEach, MatchesNext, first_state, line_of, plan_of, words_of, words_with, page_due, lines_of}
+pub use Rattle.krb_readers.specs.Ktmatch.{MatchesEach, MatchesNext, first_state, line_of, plan_of, words_of, words_with, page_due}
 pub use Rattle.krb_readers.specs.declared.ktmatch.state.MatchState.{MatchState}
-pub use Rattle.krb_driver.specs.Several.{Round, first_round, label_of}
+pub use Rattle.krb_driver.specs.Several.{Round, first_round}
 pub use Rattle.krb_driver.specs.declared.file_name.FileName.{FileName}
 pub use Rattle.krb_files.specs.declared.files.Files.{Ghosts}
 pub use Rattle.krb_keytab.specs.Store.{KeytabState, store_of}
@@ -36,4 +36,4 @@ pub use Rattle.krb_driver.proofs.Spelled.{no_mistake}
 pub use Rattle.krb_findings.specs.Table.{joined}
 pub use Rattle.krb_readers.specs.Ktfind.{EntrySought, finds, entry_sought_of}
 pub use Rattle.krb_readers.specs.KtmatchWords.{TicketMatch}
-pub use Rattle.krb_match.specs.Tickets.{matched_tickets, MatchedParts}
+pub use Rattle.krb_match.specs.Tickets.{MatchedParts}

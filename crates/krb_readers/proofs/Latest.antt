@@ -1,5 +1,5 @@
 -- The latest end of tickets.
-use Rattle.krb_readers.proofs.Cited.{◌≡◌, ◌∙◌, ap, sym, ℕ, List, [], ◌∷◌, Bool, false, refl, arith, PlacedCredential, placed_credentials, Option, None, Some, nat_lt, filter, ◌||◌, list_any, has_ticket, is_valid_after, last_end, later, latest, CacheState}
+use Rattle.krb_readers.proofs.Cited.{◌≡◌, ◌∙◌, ap, ℕ, List, [], ◌∷◌, false, refl, arith, PlacedCredential, placed_credentials, Option, None, nat_lt, filter, list_any, has_ticket, is_valid_after, last_end, later, latest, CacheState}
 use Rattle.std.specs.Option.{option_map_or, option_or}
 use Rattle.krb_audit.specs.GoingOn.{first_of, is_tgt, is_ticket, looked_at}
 

@@ -1,5 +1,5 @@
 -- What the words of a command spell, one after the other.
-use Rattle.krb_readers.proofs.Cited.{arith, ◌≡◌, ℕ, ◌+◌, ◌<◌, List, ◌∷◌, length, map, drop, get_or, fold, Bor, Option, None, Result, Ok, Err, refl, sym, ap, ◌∙◌, drop_more, result_map, MistakeParts, ◌>>=◌, ◌>>◌, each, result_err}
+use Rattle.krb_readers.proofs.Cited.{arith, ◌≡◌, ℕ, ◌+◌, ◌<◌, List, length, map, drop, get_or, fold, Bor, Option, None, Result, Ok, refl, drop_more, result_map, MistakeParts, ◌>>=◌, ◌>>◌, each, result_err}
 
 -- what follows two mistakes that are not there
 pub no_mistakes : {X : Type 0} (a b : Option MistakeParts) (then_ : Result X MistakeParts) → a ≡ None → b ≡ None → (a >> (b >> then_)) ≡ then_

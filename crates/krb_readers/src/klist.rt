@@ -24,7 +24,6 @@ use krb_keytab_text::{KtColumns, list_keytab};
 use std::alloc::Allocator;
 use std::io::{Read, Write};
 
-/// The command klist.
 #[derive(Clone, Copy)]
 struct ListFiles<'f> {
     options: &'f KlistOptions,
@@ -52,13 +51,10 @@ fn show_gap<W: Write>(json: bool, is_after: bool, out: &mut Watched<W>) -> Resul
     requires { IsFalse out.old.failed }
     ensures { Prints out.old out.new result (gap json is_after) }
 {
-    if json {
+    if json || !is_after {
         return Ok(());
     }
-    if is_after {
-        return put(out, b"\n");
-    }
-    Ok(())
+    put(out, b"\n")
 }
 
 // Prints a file with its columns, or as JSON.

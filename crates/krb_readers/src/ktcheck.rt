@@ -20,7 +20,6 @@ use krb_findings::FindingSet;
 use std::alloc::Allocator;
 use std::io::{Read, Write};
 
-/// The command ktcheck.
 #[derive(Clone, Copy)]
 struct CheckFiles<'f, B: Allocator> {
     options: &'f CheckOptions<B>,

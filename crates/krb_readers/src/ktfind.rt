@@ -18,7 +18,6 @@ use std::alloc::{Allocator, Global};
 use std::io::{Read, Write};
 use std::marker::Model;
 
-/// The words of ktfind.
 pub const KTFIND: CommandWords = CommandWords {
     command: CommandName::Ktfind,
     name: "ktfind",
@@ -44,7 +43,6 @@ Example: the newest key of b@R, of whatever type
     ],
 };
 
-/// What ktfind looks for.
 #[derive(Drop)]
 pub struct FindOptions<A: Allocator> {
     pub name: Principal<A>,
@@ -88,7 +86,6 @@ pub fn find_options<'a, M: Matches<'a>>(
     })
 }
 
-/// The command ktfind.
 #[derive(Clone, Copy)]
 struct FindEntry<'f, B: Allocator> {
     options: &'f FindOptions<B>,

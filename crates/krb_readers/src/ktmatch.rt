@@ -7,9 +7,6 @@ mod verdict;
 pub(crate) mod words;
 
 ghost use Rattle.std.specs.Prelude.{◌≡◌, nat_lt, length};
-ghost use Rattle.krb_driver.specs.Commands.{GivesOf};
-ghost use Rattle.krb_driver.specs.Composing.{opened};
-ghost use Rattle.krb_driver.specs.Loading.{whole_in};
 ghost use Rattle.krb_readers.specs.Ktmatch.{EndsBy, EndsMatches, MatchesAll, LinesAreOfEach, MatchesCaches, MatchesEach, MatchesNext, NamesEntry, first_state, none_error, plan_of};
 
 use crate::ktmatch::command::MatchFiles;
@@ -21,7 +18,6 @@ use krb_driver::{
     TicketsSought, World, finish, give, name_near, report, run_over,
 };
 use krb_files::Files;
-use krb_keytab::Keytab;
 use krb_match::{EntryNames, Matcher};
 use krb_wire::NoMemory;
 use std::alloc::Allocator;
@@ -91,13 +87,11 @@ fn match_caches<A: Allocator + Copy, B: Allocator, F: Files, R: Read, W: Write, 
     ran
 }
 
-// Memory ran out.
 const SPENT: FileError<'static> = FileError {
     file: "",
     error: RunError::NoMemory,
 };
 
-// Ends a run with an error.
 fn end_by<A: Allocator + Copy, F: Files, R: Read, W: Write, E: Write>(
     alloc: A,
     met: FileError<'_>,
@@ -152,18 +146,6 @@ fn match_with<A: Allocator + Copy, B: Allocator, F: Files, R: Read, W: Write, E:
     end_matches(sought(command.options), names, ran, world)
 }
 
-// Loads the keytab, which is to have no damage.
-fn load<'a, A: Allocator + Copy, B: Allocator, F: Files>(
-    alloc: A,
-    options: &MatchOptions<B>,
-    files: &mut F,
-    keytab: FileName<'a>,
-) -> Result<Keytab<A>, FileError<'a>>
-    ensures { GivesOf F.Files files.old keytab.entry (whole_in options.now.v1_order) (opened (λ k. k.state) result) files.new }
-{
-    give(alloc, KeytabUse::Change(options.v1_order), files, keytab)
-}
-
 /// Says of the tickets of caches, one cache after the other, whether a keytab opens them, and returns the greatest status.
 /// With several caches each line begins with the name of its file, without a newline; JSON is one object a line. Words
 /// explain each word once, at the first cache that has it. Ends before any cache if the keytab is missing, none or damaged,
@@ -177,7 +159,8 @@ pub fn run_ktmatch<A: Allocator + Copy, B: Allocator, F: Files, R: Read, W: Writ
 ) -> u8
     ensures { MatchesAll F.Files options.now keytab.entry world.old world.new result names.now }
 {
-    let opened = match load(alloc, options, &mut world.files, keytab) {
+    let whole = KeytabUse::Change(options.v1_order);
+    let opened = match give(alloc, whole, &mut world.files, keytab) {
         Ok(opened) => opened,
         Err(met) => return end_by(alloc, met, world),
     };

@@ -2,13 +2,13 @@
 
 pub(crate) mod words;
 
-ghost use Rattle.std.specs.Prelude.{◌≡◌, ◌++◌, OnOk, IfOk};
+ghost use Rattle.std.specs.Prelude.{◌≡◌, ◌++◌, OnOk};
 ghost use Rattle.krb_driver.specs.Commands.{IsMade};
 ghost use Rattle.krb_driver.specs.Composing.{text_effect};
 ghost use Rattle.krb_driver.specs.Either.{damage_of, state_of};
 ghost use Rattle.krb_driver.specs.RunErrors.{listing_verdict};
 ghost use Rattle.krb_readers.specs.Klist.{printed_after};
-ghost use Rattle.krb_readers.specs.Show.{ShowsAll, block, show_plan, shows, view_of};
+ghost use Rattle.krb_readers.specs.Show.{ShowsAll, show_plan, shows, view_of};
 
 use crate::show::words::ShowOptions;
 use krb_driver::{
@@ -47,27 +47,6 @@ fn append_view<A: Allocator + Copy>(
     }
 }
 
-// Returns the block of a file: an empty line, if it is after another one, and what is shown of the file.
-fn block_of<A: Allocator + Copy>(
-    alloc: A,
-    now: u32,
-    is_after: bool,
-    file: &str,
-    mode: Option<u32>,
-    of: &Contents<A>,
-) -> Result<Vec<u8, A>, NoMemory>
-    ensures { IfOk result (λ text. text.items ≡ block now is_after file.now mode (state_of of.now)) }
-{
-    let mut text = Vec::new(alloc);
-    if is_after {
-        append(b"\n", &mut text)?;
-    }
-    let mut name = Vec::new(alloc);
-    append_name(file.as_bytes(), &mut name)?;
-    append_view(alloc, &name, now, mode, of, &mut text)?;
-    Ok(text)
-}
-
 // Returns the verdict of a file, whose block reports the fault if there is one.
 fn verdict_of<A: Allocator>(of: &Contents<A>) -> Verdict
     ensures { result ≡ listing_verdict (damage_of (state_of of.now)) }
@@ -78,7 +57,7 @@ fn verdict_of<A: Allocator>(of: &Contents<A>) -> Verdict
     }
 }
 
-// Returns the block of a file.
+// Returns the block of a file: an empty line, if it is after another one, and what is shown of the file.
 fn shown<'a, A: Allocator + Copy>(
     alloc: A,
     now: u32,
@@ -89,7 +68,11 @@ fn shown<'a, A: Allocator + Copy>(
 ) -> Result<Made<A, Output<A>>, FileError<'a>>
     ensures { IsMade (shows now is_after file.now mode (state_of of)) (text_effect file.now result) }
 {
-    let text = block_of(alloc, now, is_after, file, mode, &of)?;
+    let mut text = Vec::new(alloc);
+    append(if is_after { b"\n" } else { b"" }, &mut text)?;
+    let mut name = Vec::new(alloc);
+    append_name(file.as_bytes(), &mut name)?;
+    append_view(alloc, &name, now, mode, &of, &mut text)?;
     let verdict = verdict_of(&of);
     Ok(Made::Shows(Output { text, verdict }))
 }

@@ -1,5 +1,5 @@
 -- The numbers that a set has, as a list.
-use Rattle.krb_show.proofs.Cited.{arith, ◌≡◌, ◌++◌, ◌∙◌, ap, sym, refl, ℕ, List, [], ◌∷◌, Bool, true, false, cond, not, list_any, BTreeSet, contains, is_eq, nat_cmp, ◌==◌, ◌||◌}
+use Rattle.krb_show.proofs.Cited.{arith, ◌≡◌, ◌++◌, ◌∙◌, ap, sym, refl, ℕ, List, [], ◌∷◌, Bool, true, false, cond, list_any, BTreeSet, contains, is_eq, nat_cmp, ◌==◌, ◌||◌}
 use Rattle.std.specs.Cmp.{unsigned_tied, unsigned_Decides}
 use Rattle.std.proofs.lemmas.List.Folds.{list_any-append}
 
@@ -32,11 +32,3 @@ has_push s t ns n has put q = put_is s t ns n q has put ∙ either (n == q) (is_
 -- a number was put into the set that was in it
 pub has_again : (s t : BTreeSet ℕ) (ns : List ℕ) (n : ℕ) → Has s ns → Puts s t n → is_among ns n ≡ true → Has t ns
 has_again s t ns n has put among q = put_is s t ns n q has put ∙ again ns n q (n == q) refl among
-
--- a number that is not new is among them
-pub stale : (b a : Bool) → b ≡ not a → b ≡ false → a ≡ true
-stale b a e f = grind (arith, e, f)
-
--- a number that is new is not
-pub fresh : (b a : Bool) → b ≡ not a → b ≡ true → a ≡ false
-fresh b a e f = grind (arith, e, f)

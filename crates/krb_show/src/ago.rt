@@ -35,7 +35,6 @@ fn unit_within(most: u32) -> (u32, &'static [u8])
     }
 }
 
-// Appends some seconds in a unit.
 fn append_in<A: Allocator>(
     unit: (u32, &'static [u8]),
     seconds: u32,
@@ -48,7 +47,6 @@ fn append_in<A: Allocator>(
     append(unit.1, out)
 }
 
-// Appends some seconds in their unit.
 #[tactic(auto, unfolding(crate::specs::Ago::span))]
 fn append_span<A: Allocator>(seconds: u32, out: &mut Vec<u8, A>) -> Result<(), NoMemory>
     ensures { AppendedPart (span seconds) out.old out.new result }

@@ -19,18 +19,16 @@ const TITLES: [&[u8]; 5] = [b"ENDS", b"RENEW", b"SESSION", b"TICKET", b"SERVICE"
 fn append_offset<A: Allocator>(offset: Option<Offset>, out: &mut Vec<u8, A>) -> Result<(), NoMemory>
     ensures { OnOk result (out.new.items ≡ out.old.items ++ offset_note offset) }
 {
-    let Some(offset) = offset else {
-        return Ok(());
-    };
-    if offset.seconds == 0 {
-        return Ok(());
+    match offset {
+        Some(offset) if offset.seconds != 0 => {
+            append(b", clock offset ", out)?;
+            append(Buffer::new().format(offset.seconds).as_bytes(), out)?;
+            append(b" s", out)
+        }
+        _ => Ok(()),
     }
-    append(b", clock offset ", out)?;
-    append(Buffer::new().format(offset.seconds).as_bytes(), out)?;
-    append(b" s", out)
 }
 
-// Appends what is said of a cache.
 fn append_notes<A: Allocator>(
     said: Judgement,
     offset: Option<Offset>,

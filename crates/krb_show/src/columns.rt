@@ -1,6 +1,6 @@
 //! Tables in columns, and numbers of things.
 
-ghost use Rattle.std.specs.Prelude.{◌≡◌, ◌-◌, ◌+◌, ◌++◌, ◌∷◌, IfOk, OnOk, length, map, max, replicate};
+ghost use Rattle.std.specs.Prelude.{◌≡◌, ◌-◌, ◌++◌, ◌∷◌, IfOk, OnOk, length, map, max, replicate};
 ghost use Rattle.std.specs.List.{fold, flat_map};
 ghost use Rattle.krb_show.specs.Columns.{asked_width, cell_of, cells_behind, counted, padded_width, row_text, table, widths};
 
@@ -45,7 +45,6 @@ pub trait Rows<A: Allocator + Copy> {
         ensures { OnOk result (out.new.items ≡ out.old.items ++ flat_map (row_text widths.now) (rows self.now)) };
 }
 
-// The titles of columns.
 #[derive(Drop)]
 struct Titles<'t>(&'t [&'t [u8]]);
 
@@ -110,7 +109,6 @@ fn padded_width<A: Allocator + Copy, T: Rows<A>>(
     rows.widened(alloc, column, least)
 }
 
-// Returns the widths of the columns of a table.
 fn widths<A: Allocator + Copy, T: Rows<A>>(
     alloc: A,
     titles: &[&[u8]],
@@ -127,13 +125,6 @@ fn widths<A: Allocator + Copy, T: Rows<A>>(
     Ok(all)
 }
 
-fn append_blanks<A: Allocator>(count: usize, out: &mut Vec<u8, A>) -> Result<(), NoMemory>
-    ensures { OnOk result (out.new.items ≡ out.old.items ++ replicate count 32) }
-{
-    let len = out.len().checked_add(count).ok_or(NoMemory)?;
-    Ok(out.resize(len, b' ')?)
-}
-
 // Appends a cell behind some blanks, and returns its length.
 fn append_behind<A: Allocator + Copy, R: Row<A>>(
     alloc: A,
@@ -145,20 +136,12 @@ fn append_behind<A: Allocator + Copy, R: Row<A>>(
     ensures text { OnOk result (out.new.items ≡ out.old.items ++ (replicate blanks 32 ++ cell_of column (R.cells row.now))) }
     ensures len { IfOk result (λ len. len ≡ length (cell_of column (R.cells row.now))) }
 {
-    append_blanks(blanks, out)?;
-    let start = out.len();
+    let start = out.len().checked_add(blanks).ok_or(NoMemory)?;
+    out.resize(start, b' ')?;
     row.append_cell(alloc, column, out)?;
     Ok(out.len() - start)
 }
 
-// Returns how many blanks are between a cell of that length and the next.
-fn blanks_after(width: usize, len: usize) -> Result<usize, NoMemory>
-    ensures { IfOk result (λ blanks. blanks ≡ width - len + 2) }
-{
-    width.saturating_sub(len).checked_add(2).ok_or(NoMemory)
-}
-
-// Appends the cells of a row in their columns.
 fn append_cells<A: Allocator + Copy, R: Row<A>>(
     alloc: A,
     widths: &[usize],
@@ -173,7 +156,8 @@ fn append_cells<A: Allocator + Copy, R: Row<A>>(
             return Ok(());
         }
         let len = append_behind(alloc, blanks, column, row, out)?;
-        blanks = blanks_after(widths[column], len)?;
+        let rest = widths[column].saturating_sub(len);
+        blanks = rest.checked_add(2).ok_or(NoMemory)?;
     }
     Ok(())
 }

@@ -32,13 +32,12 @@ pub fn append_mode_note<A: Allocator>(
 ) -> Result<(), NoMemory>
     ensures { OnOk result (out.new.items ≡ out.old.items ++ mode_note mode) }
 {
-    let Some(bits) = mode else {
-        return Ok(());
-    };
-    if !is_open_file(mode) {
-        return Ok(());
+    match mode {
+        Some(bits) if is_open_file(mode) => {
+            append(b", mode ", out)?;
+            append_mode_digits(bits, out)?;
+            append(if is_open_to_all(mode) { b"!" } else { b"" }, out)
+        }
+        _ => Ok(()),
     }
-    append(b", mode ", out)?;
-    append_mode_digits(bits, out)?;
-    append(if is_open_to_all(mode) { b"!" } else { b"" }, out)
 }

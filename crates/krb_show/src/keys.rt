@@ -1,7 +1,6 @@
 //! The rows of keys.
 
-ghost use Rattle.std.specs.Prelude.{◌≡◌, ◌++◌, IfOk, OnOk, [], codes, true, if◌then◌else◌};
-ghost use Rattle.krb_show.specs.EtypeNames.{etype_cell};
+ghost use Rattle.std.specs.Prelude.{◌≡◌, ◌++◌, IfOk, OnOk, true};
 ghost use Rattle.krb_show.specs.KeytabView.{distinct, keys_cell, more_types, spaced};
 
 use crate::ago::append_time;
@@ -9,7 +8,7 @@ use crate::columns::Row;
 use crate::etypes::append_etype;
 use crate::lines::{Line, LineKey};
 use itoa::Buffer;
-use krb_text::{append, append_byte, append_labelled};
+use krb_text::{append, append_labelled};
 use krb_wire::NoMemory;
 use std::alloc::Allocator;
 use std::collections::BTreeSet;
@@ -32,27 +31,14 @@ fn distinct<A: Allocator + Copy>(alloc: A, numbers: &[u16]) -> Result<Vec<u16, A
     Ok(each)
 }
 
-// Appends an enctype, after a blank unless it is the first.
-fn append_spaced<A: Allocator>(
-    is_first: bool,
-    etype: u16,
-    out: &mut Vec<u8, A>,
-) -> Result<(), NoMemory>
-    ensures { OnOk result (out.new.items ≡ out.old.items ++ ((if is_first then [] else codes " ") ++ etype_cell etype)) }
-{
-    if !is_first {
-        append_byte(b' ', out)?;
-    }
-    append_etype(etype, out)
-}
-
 // Appends enctypes with blanks between them.
 fn append_etypes<A: Allocator>(etypes: &[u16], out: &mut Vec<u8, A>) -> Result<(), NoMemory>
     ensures { OnOk result (out.new.items ≡ out.old.items ++ spaced true etypes.now) }
 {
     let mut is_first = true;
     'etypes: for etype in etypes {
-        append_spaced(is_first, *etype, out)?;
+        append(if is_first { b"" } else { b" " }, out)?;
+        append_etype(*etype, out)?;
         is_first = false;
     }
     Ok(())
@@ -70,7 +56,6 @@ fn append_more<A: Allocator>(count: usize, out: &mut Vec<u8, A>) -> Result<(), N
     append(b" more", out)
 }
 
-// Appends the types of a line.
 #[tactic(auto, unfolding(crate::specs::KeytabView::keys_cell))]
 fn append_keys<A: Allocator + Copy>(
     alloc: A,

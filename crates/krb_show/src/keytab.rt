@@ -15,7 +15,6 @@ use std::alloc::Allocator;
 
 const TITLES: [&[u8]; 4] = [b"KVNO", b"ADDED", b"KEYS", b"PRINCIPAL"];
 
-// Returns how many names the lines have.
 fn name_count<A: Allocator>(lines: &Lines<'_, A>) -> Result<usize, NoMemory>
     ensures { IfOk result (λ n. n ≡ name_count lines.now.entries) }
 {
@@ -56,7 +55,6 @@ fn append_weak_names<A: Allocator>(count: usize, out: &mut Vec<u8, A>) -> Result
     append(b" with weak keys alone!", out)
 }
 
-// Appends what is said of a keytab.
 fn append_notes<A: Allocator>(
     tally: Tally,
     mode: Option<u32>,

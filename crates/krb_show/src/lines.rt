@@ -60,7 +60,6 @@ impl<'a, A: Allocator> Line<'a, A> {
         }
     }
 
-    // Adds the time and the enctype of an entry.
     fn add(&mut self, timestamp: u32, etype: u16) -> Result<(), NoMemory>
         ensures { OnOk result (self.new ≡ grown self.old timestamp etype) }
     {
@@ -69,7 +68,6 @@ impl<'a, A: Allocator> Line<'a, A> {
         Ok(())
     }
 
-    /// Appends the name.
     pub fn append_name<B: Allocator>(&self, out: &mut Vec<u8, B>) -> Result<(), NoMemory>
         ensures { OnOk result (out.new.items ≡ out.old.items ++ name_text self.now.principal) }
     {
@@ -123,7 +121,6 @@ impl<'a, A: Allocator + Copy> SoFar<'a, A> {
         })
     }
 
-    // Adds the entry of the next record.
     fn add(&mut self, alloc: A, format: KtFormat, record: &'a [u8]) -> Result<(), NoMemory>
         ensures { (k : KeytabState) (rest : List PlacedEntry) (x : PlacedEntry) → entry_at format record.now ≡ Some x.1
             → AreSoFar k (x ∷ rest) self.old → OnOk result (AreSoFar k rest self.new) }

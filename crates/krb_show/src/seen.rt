@@ -24,7 +24,6 @@ pub struct Judgement {
     pub is_expired: bool,
 }
 
-// What was seen of the tickets so far.
 #[derive(Clone, Copy)]
 struct SeenTickets {
     count: usize,
@@ -37,7 +36,6 @@ struct SeenTickets {
     ticket_lasts: bool,
 }
 
-// Returns whether a ticket lasts beyond a second.
 fn lasts(now: u32, place: u32, ticket: &CredView<'_>) -> bool
     ensures { result ≡ lasts now (place, ticket.now) }
 {
@@ -60,7 +58,6 @@ fn more_if(count: usize, is_one: bool) -> Result<usize, NoMemory>
 }
 
 impl SeenTickets {
-    // Takes in the next credential.
     fn see(
         &mut self,
         now: u32,

@@ -22,10 +22,8 @@ fn start(ticket: &CredView<'_>) -> u32
     }
 }
 
-// The flag INVALID.
 const INVALID: u32 = 0x0100_0000;
 
-// Returns whether the flag INVALID is set among those of a ticket.
 fn is_invalid(flags: u32) -> bool
     ensures { result ≡ is_invalid flags }
 {

@@ -17,14 +17,12 @@ use std::io::Write;
 /// The most bytes of a frame of an image that is not too large: ten digits, a newline, and 16 MiB.
 pub const MOST_FRAME: u32 = 16_777_227;
 
-// Returns the pieces of the frame of an image.
 fn frame_of(image: &[u8]) -> [MessagePiece<'_>; 3]
     ensures { pieces_text result ≡ frame image.now }
 {
     [Number(image.len() as u64), Text("\n"), Operand(image)]
 }
 
-/// Prints the frame of an image.
 pub fn print_frame<W: Write>(image: &[u8], out: &mut Watched<W>) -> Result<Verdict, RunError>
     ensures { Shows (record { out = frame image.now; ending = Ok Well }) out.old out.new result }
 {
@@ -35,7 +33,6 @@ pub fn print_frame<W: Write>(image: &[u8], out: &mut Watched<W>) -> Result<Verdi
     Ok(Verdict::Well)
 }
 
-// Returns where the first newline is.
 fn first_newline(text: &[u8]) -> Option<usize>
     ensures is { result ≡ position_from (λ b. b == 10) 0 text.now }
     ensures within { IfSome result (λ end. end < length text.now) }

@@ -9,7 +9,6 @@ use krb_driver::{
 };
 use krb_wire::Order;
 
-/// The words of hold.
 pub const HOLD: CommandWords = CommandWords {
     command: CommandName::Hold,
     name: "hold",
@@ -48,7 +47,6 @@ pub enum HoldKind {
 impl HoldKind {
     ghost use Rattle.krb_editors.specs.Hold.{file_kind};
 
-    /// Returns the kind of file.
     pub fn file_kind(self) -> FileKind
         ensures { result ≡ file_kind self }
     {

@@ -17,7 +17,6 @@ use krb_wire::Order;
 use std::alloc::{Allocator, Global};
 use std::marker::Model;
 
-/// The words of ktremove.
 pub const KTREMOVE: CommandWords = CommandWords {
     command: CommandName::Ktremove,
     name: "ktremove",

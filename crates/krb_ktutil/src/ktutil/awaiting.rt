@@ -1,7 +1,8 @@
 //! What the next line of ktutil is, and an entry whose key is still to come.
 
 ghost use Rattle.std.specs.Prelude.{◌≡◌};
-ghost use Rattle.krb_ktutil.specs.KtutilPlan.{is_pending};
+ghost use Rattle.krb_wire.specs.Reading.{principal_parts};
+ghost use Rattle.krb_ktutil.specs.KtutilPlan.{Awaited, is_pending, key_prompt};
 ghost use Rattle.krb_ktutil.specs.KtutilTalk.{prompt_of};
 
 use krb_wire::Principal;
@@ -48,10 +49,6 @@ pub struct Addition<A: Allocator> {
 }
 
 impl<A: Allocator> Model for Addition<A> {
-    ghost use Rattle.std.specs.Prelude.{◌≡◌};
-    ghost use Rattle.krb_wire.specs.Reading.{principal_parts};
-    ghost use Rattle.krb_ktutil.specs.KtutilCommand.{Awaited, key_prompt};
-
     ghost Value = { Awaited };
 
     ghost view = { λ x. record {

@@ -28,29 +28,14 @@ fn only(rest: &[u8]) -> Result<&[u8], LineFault>
     }
 }
 
-fn utf8(word: &[u8]) -> Result<&str, LineFault>
-    ensures { result_map (λ name. name.now) result ≡ file_word word.now }
-{
-    match str::from_utf8(word) {
-        Ok(name) => Ok(name),
-        Err(_) => Err(LineFault::BadFileName),
-    }
-}
-
 /// Parses the only word as the name of a file, with its type if it has one.
+#[tactic(auto, using(crate::proofs::WordLemmas::utf8))]
 pub fn file_name(rest: &[u8]) -> Result<&str, LineFault>
     ensures { result_map (λ name. name.now) result ≡ after file_word (only (words rest.now)) }
 {
-    utf8(only(rest)?)
-}
-
-fn checked_slot(slot: u32, count: usize) -> Result<u32, LineFault>
-    ensures { result ≡ slot_of count slot }
-{
-    if 0 < slot && slot as usize <= count {
-        Ok(slot)
-    } else {
-        Err(LineFault::BadSlot)
+    match str::from_utf8(only(rest)?) {
+        Ok(name) => Ok(name),
+        Err(_) => Err(LineFault::BadFileName),
     }
 }
 
@@ -58,7 +43,12 @@ fn checked_slot(slot: u32, count: usize) -> Result<u32, LineFault>
 pub fn slot(rest: &[u8], count: usize) -> Result<u32, LineFault>
     ensures { result ≡ after (slot_of count) (after number_word (only (words rest.now))) }
 {
-    checked_slot(number_word(only(rest)?)?, count)
+    let slot = number_word(only(rest)?)?;
+    if 0 < slot && slot as usize <= count {
+        Ok(slot)
+    } else {
+        Err(LineFault::BadSlot)
+    }
 }
 
 fn with_column(mut columns: KtColumns, option: &[u8]) -> Option<KtColumns>

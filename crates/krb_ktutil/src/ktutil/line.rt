@@ -1,6 +1,6 @@
 //! What a line of ktutil comes to.
 
-ghost use Rattle.std.specs.Prelude.{◌≡◌, [], true, false};
+ghost use Rattle.std.specs.Prelude.{◌≡◌, [], false};
 ghost use Rattle.krb_driver.specs.Commands.{Displays, Fails, text};
 ghost use Rattle.krb_driver.specs.declared.verdict.Verdict.TheVariants.{Well};
 ghost use Rattle.krb_ktutil.specs.KtutilPlan.{line_effect};
@@ -40,17 +40,6 @@ impl<'l, A: Allocator> Line<'l, A> {
         ensures quits { result.quits ≡ false }
     {
         Line::prints(Vec::new(alloc))
-    }
-
-    /// Returns that of the last line.
-    pub fn quits(alloc: A) -> Line<'l, A>
-        ensures effect { line_effect result ≡ Displays [] (text [] Well) }
-        ensures quits { result.quits ≡ true }
-    {
-        Line {
-            quits: true,
-            ..Line::done(alloc)
-        }
     }
 
     /// Returns that of a line with an error about a file, or about the empty name.

@@ -1,8 +1,9 @@
 //! Parses the options of `add_entry`.
 
 ghost use Rattle.std.specs.Prelude.{◌≡◌, ◌<◌, ◌+◌, ◌∷◌, true, Some, None, IfOk, IfSome, MatchOption, length};
+ghost use Rattle.std.specs.Option.{option_copied};
 ghost use Rattle.krb_wire.specs.Reading.{principal_parts};
-ghost use Rattle.krb_ktutil.specs.KtutilCommand.{words, no_options, is_new_key, with_option, options_in, awaited_by, awaited_of, has_password, key_prompt};
+ghost use Rattle.krb_ktutil.specs.KtutilCommand.{AddOptions as Options, words, no_options, is_new_key, with_option, options_in, awaited_by, awaited_of, has_password, key_prompt};
 ghost use Rattle.krb_text.specs.LineFault.{Reads};
 
 use crate::ktutil::awaiting::Addition;
@@ -13,7 +14,7 @@ use std::alloc::Allocator;
 use std::marker::Model;
 
 // Whether `-key` is given, and the words after `-p`, `-k` and `-e`.
-#[derive(Drop)]
+#[derive(Default, Drop)]
 struct AddOptions<'a> {
     key: bool,
     name: Option<&'a [u8]>,
@@ -22,9 +23,6 @@ struct AddOptions<'a> {
 }
 
 impl<'a> Model for AddOptions<'a> {
-    ghost use Rattle.std.specs.Option.{option_copied};
-    ghost use Rattle.krb_ktutil.specs.KtutilCommand.{AddOptions as Options};
-
     ghost Value = { Options };
 
     ghost view = { λ o. record {
@@ -74,16 +72,10 @@ impl<'a> AddOptions<'a> {
     }
 }
 
-// Parses words as options.
 fn options(rest: &[u8]) -> Option<AddOptions<'_>>
     ensures { result ≡ options_in no_options (words rest.now) }
 {
-    let mut options = AddOptions {
-        key: false,
-        name: None,
-        kvno: None,
-        etype: None,
-    };
+    let mut options = AddOptions::default();
     let mut rest = rest;
     'options: while let Some((option, after)) = next_word(rest) {
         let (more, others) = options.take(option, after)?;

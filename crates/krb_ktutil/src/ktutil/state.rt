@@ -76,7 +76,6 @@ impl<A: Allocator + Copy> Ktutil<A> {
         self.awaiting.prompt()
     }
 
-    // Lists the slots.
     fn list<'l>(&self, rest: &[u8]) -> Result<Line<'l, A>, LineRefusal>
         ensures { (number : ℕ) → Attempts self.now number (listing (words rest.now)) self.now result }
     {
@@ -86,7 +85,6 @@ impl<A: Allocator + Copy> Ktutil<A> {
         Ok(Line::prints(text))
     }
 
-    // Deletes a slot.
     fn delete<'l>(&mut self, rest: &[u8]) -> Result<Line<'l, A>, LineRefusal>
         ensures { (number : ℕ) → Attempts self.old number (command_by (length self.old.entries) (Some verb.Delete) (words rest.now)) self.new result }
     {
@@ -95,7 +93,6 @@ impl<A: Allocator + Copy> Ktutil<A> {
         Ok(Line::done(self.alloc))
     }
 
-    // Empties the list.
     fn clear<'l>(&mut self, rest: &[u8]) -> Result<Line<'l, A>, LineRefusal>
         ensures { (number : ℕ) → Attempts self.old number (alone ClearList (words rest.now)) self.new result }
     {
@@ -106,15 +103,16 @@ impl<A: Allocator + Copy> Ktutil<A> {
         Ok(Line::done(self.alloc))
     }
 
-    // Ends the run.
     fn quit<'l>(&self, rest: &[u8]) -> Result<Line<'l, A>, LineRefusal>
         ensures { (number : ℕ) → Attempts self.now number (alone Quit (words rest.now)) self.now result }
     {
-        if is_bare(rest) {
-            Ok(Line::quits(self.alloc))
-        } else {
-            Err(LineRefusal::Fault(LineFault::WordCount))
+        if !is_bare(rest) {
+            return Err(LineRefusal::Fault(LineFault::WordCount));
         }
+        Ok(Line {
+            quits: true,
+            ..Line::done(self.alloc)
+        })
     }
 
     // Runs a command with the words after it.
@@ -140,7 +138,6 @@ impl<A: Allocator + Copy> Ktutil<A> {
         }
     }
 
-    // Runs the command of a line.
     #[tactic(auto, using(crate::proofs::KtutilHandles::makes_end))]
     fn command<'l, F: Files>(
         &mut self,
@@ -185,7 +182,6 @@ impl<A: Allocator + Copy> Ktutil<A> {
         }
     }
 
-    // Runs a line by its plan.
     #[tactic(auto, using(crate::proofs::KtutilHandles::makes_end))]
     fn run_line<'l, F: Files>(
         &mut self,

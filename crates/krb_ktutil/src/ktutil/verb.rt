@@ -1,7 +1,7 @@
 //! The commands of ktutil, and the errors for lines that have a fault.
 
 ghost use Rattle.std.specs.Prelude.{◌≡◌};
-ghost use Rattle.krb_ktutil.specs.KtutilCommand.{is_either, verb_of, asks_for_help, fault_error, asks_for_password, is_addition, words};
+ghost use Rattle.krb_ktutil.specs.KtutilCommand.{is_either, verb_of, asks_for_help, fault_error, asks_for_password, words};
 
 use crate::ktutil::options::has_password;
 use crate::ktutil::words::next_word;
@@ -51,18 +51,14 @@ pub fn verb_of(word: &[u8]) -> Option<Verb>
     Some(verb)
 }
 
-fn is_addition(verb: Option<Verb>) -> bool
-    ensures { result ≡ is_addition verb }
-{
-    matches!(verb, Some(Verb::Add))
-}
-
 /// Returns whether a line adds an entry with a key from a password.
 pub fn asks_for_password(line: &[u8]) -> bool
     ensures { result ≡ asks_for_password (words line.now) }
 {
     match next_word(line) {
-        Some((command, options)) => { is_addition(verb_of(command)) && has_password(options) }
+        Some((command, options)) => {
+            matches!(verb_of(command), Some(Verb::Add)) && has_password(options)
+        }
         None => false,
     }
 }

@@ -85,7 +85,6 @@ fn summary_of<A: Allocator>(cache: &Ccache<A>, now: u32) -> CacheSummary
     }
 }
 
-/// The command `klist -l`.
 #[derive(Clone, Copy)]
 struct SurveyFiles {
     json: bool,
@@ -93,7 +92,6 @@ struct SurveyFiles {
     now: u32,
 }
 
-// Appends the line of a cache.
 fn append_line<A: Allocator + Copy>(
     now: u32,
     file: &str,

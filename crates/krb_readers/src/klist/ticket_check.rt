@@ -32,7 +32,6 @@ fn refuse_with_silent<'a, M: Matches<'a>>(matches: &M) -> Result<(), Mistake<'a>
     refuse_columns(matches, silent)
 }
 
-// Refuses several files.
 fn refuse_several<'a, M: Matches<'a>>(matches: &M) -> Result<(), Mistake<'a>>
     ensures { Refuses (odd_files (M.matched matches.now)) result }
 {
@@ -115,7 +114,6 @@ fn later(time: Option<u32>, other: u32) -> Option<u32>
 }
 
 impl SeenTickets {
-    // Takes in the next credential.
     fn see(&mut self, realm: &[u8], place: u32, credential: &CredView<'_>)
         ensures { (rest all : List PlacedCredential)
             → SeesSoFar realm.now ((place, credential.now) ∷ rest) all self.old
@@ -150,6 +148,7 @@ impl SeenTickets {
     }
 
     /// Returns the end of what the cache has to go on with, if there is that.
+    #[tactic(auto, using(crate::proofs::Latest::of_seen))]
     pub fn last_end(self) -> Option<u32>
         ensures { (k : CacheState) → SeesSoFar k.principal.realm [] (placed_credentials k) self → result ≡ last_end k }
     {

@@ -13,7 +13,6 @@ use krb_driver::{
 use krb_keytab_text::KtColumns;
 use krb_wire::Order;
 
-/// The words of klist.
 pub const KLIST: CommandWords = CommandWords {
     command: CommandName::Klist,
     name: "klist",
@@ -72,7 +71,6 @@ pub enum ListKind {
 }
 
 impl ListKind {
-    /// Returns the kind of file.
     pub fn file_kind(self) -> FileKind
         ensures { result ≡ file_kind self }
     {
@@ -83,7 +81,6 @@ impl ListKind {
     }
 }
 
-/// The options of klist.
 #[derive(Clone, Copy)]
 pub struct KlistOptions {
     pub kind: ListKind,

@@ -28,7 +28,6 @@ pub struct CheckObject<'f, A: Allocator, B: Allocator> {
 }
 
 impl<A: Allocator, B: Allocator> CheckObject<'_, A, B> {
-    // Returns what the check is asked for.
     fn asked(&self) -> CheckCriteria<'_, B>
         ensures { result ≡ asked self.now.options.now self.now.aged_by }
     {

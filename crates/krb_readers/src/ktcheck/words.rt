@@ -14,7 +14,6 @@ use krb_wire::Order;
 use std::alloc::{Allocator, Global};
 use std::marker::Model;
 
-/// The words of ktcheck.
 pub const KTCHECK: CommandWords = CommandWords {
     command: CommandName::Ktcheck,
     name: "ktcheck",
@@ -105,7 +104,6 @@ impl<A: Allocator> Model for CheckOptions<A> {
     } };
 }
 
-// Returns the finding with that word.
 fn finding<'a>(word: &'a str) -> Result<FindingSet, Mistake<'a>>
     ensures { Spells (spelled_finding word.now) result }
 {
@@ -115,7 +113,7 @@ fn finding<'a>(word: &'a str) -> Result<FindingSet, Mistake<'a>>
     }
 }
 
-// Returns the findings with those words.
+#[tactic(auto, using(crate::proofs::Options::folds_left))]
 fn findings<'a>(words: &[&'a str]) -> Result<FindingSet, Mistake<'a>>
     ensures { Spells (spelled_findings (map (λ word. word.now) words.now)) result }
 {

@@ -3,7 +3,6 @@
 ghost use Rattle.std.specs.Prelude.{◌≡◌, IfOk};
 ghost use Rattle.krb_driver.specs.Commands.{Displays, IsMade};
 ghost use Rattle.krb_driver.specs.Composing.{made_effect};
-ghost use Rattle.krb_match.specs.Tickets.{matched_tickets, near_ticket};
 ghost use Rattle.krb_readers.specs.Ktcheck.{file_page};
 ghost use Rattle.krb_readers.specs.Ktmatch.{match_page, page_due, page_of, plan_of, state_after};
 
@@ -18,7 +17,7 @@ use krb_driver::{
     Verdict, label_of, try_open,
 };
 use krb_files::Files;
-use krb_match::{Matched, MatchedTicket, Matcher};
+use krb_match::{MatchedTicket, Matcher};
 use krb_wire::NoMemory;
 use std::alloc::Allocator;
 
@@ -65,19 +64,6 @@ fn page_of<'f, A: Allocator + Copy, B: Allocator>(
     }))
 }
 
-// Returns what the keytab says of the tickets of a cache.
-fn matched<A: Allocator + Copy, B: Allocator>(
-    alloc: A,
-    command: &MatchFiles<'_, '_, A, B>,
-    cache: &Ccache<A>,
-) -> Result<Matched<A>, NoMemory>
-    ensures tickets { IfOk result (λ m. m.tickets.items ≡ matched_tickets command.now.options.now.names command.now.matcher.now.0 cache.now.state) }
-    ensures near { IfOk result (λ m. m.near ≡ near_ticket command.now.matcher.now.1 command.now.options.now.names command.now.matcher.now.0 cache.now.state) }
-{
-    let options = command.options;
-    command.matcher.judge(alloc, &options.names, cache)
-}
-
 // Returns what is shown of a cache.
 fn shown<'a, 'f, A: Allocator + Copy, B: Allocator>(
     alloc: A,
@@ -91,7 +77,7 @@ fn shown<'a, 'f, A: Allocator + Copy, B: Allocator>(
         (made_effect (file_page match_page) file.entry.name.now result) }
 {
     let (options, several) = (command.options, command.are_several);
-    let matched = matched(alloc, command, cache)?;
+    let matched = command.matcher.judge(alloc, &options.names, cache)?;
     let judged = judged_of(options, several, state, &matched, cache.fault());
     let page = page_of(alloc, command, file, matched.tickets, judged)?;
     Ok(Made::Shows(page))

@@ -1,7 +1,6 @@
 //! Reads entries from a file into the list, and adds the list to a file.
 
 ghost use Rattle.std.specs.Prelude.{◌≡◌, ℕ, Ok, IfOk, IfErr};
-ghost use Rattle.krb_driver.specs.FileNames.{has_type};
 ghost use Rattle.krb_ktutil.specs.KtutilCommand.{ReadFile, WriteFile};
 ghost use Rattle.krb_ktutil.specs.KtutilPlan.{KtutilState, with_entries, writing_plan, saved_as, saved_verdict, written_to, command_plan, Comes, MakesLine, line_effect, none_added, with_added, RefusesAdded};
 ghost use Rattle.krb_keytab.specs.Store.{entries};
@@ -72,13 +71,6 @@ fn write_to<'l, A: Allocator + Copy>(
         }
         Err(Refusal::NoMemory) => Line::fails(name, RunError::NoMemory),
     }
-}
-
-// Returns whether a word begins with a type.
-fn has_type(word: &str) -> bool
-    ensures { result ≡ has_type word.now }
-{
-    type_of(word.as_bytes()).is_some()
 }
 
 impl<A: Allocator + Copy> Ktutil<A> {
@@ -152,7 +144,7 @@ impl<A: Allocator + Copy> Ktutil<A> {
         ensures { MakesLine F.Files (command_plan self.now number (WriteFile word.now))
             files.old files.new self.now self.now (line_effect result) result.quits }
     {
-        if has_type(word) {
+        if type_of(word.as_bytes()).is_some() {
             return Line::fails(word, RunError::TypedName);
         }
         hold(files, word);
@@ -160,7 +152,6 @@ impl<A: Allocator + Copy> Ktutil<A> {
     }
 }
 
-// Copies the entries of a keytab.
 fn copy_entries<A: Allocator + Copy, B: Allocator>(
     alloc: A,
     keytab: &Keytab<B>,

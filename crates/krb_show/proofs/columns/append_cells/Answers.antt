@@ -1,3 +1,4 @@
+use Rattle.std.proofs.Common.{rules}
 use Rattle.krb_show.proofs.Cited.{[], arith, drop_all, drop_more, inl, inr}
 use Rattle.krb_show.proofs.Tables.{all_put, put_cell}
 use Rattle.krb_show.proofs.columns.append_cells.Goals as goal
@@ -8,7 +9,7 @@ columns-preserved g c =
     let ws = c.args.widths.now in
     let cs = g.R.Row.cells c.args.row.now in
     let i = c.columns.column in
-    put_cell _ _ _ _ _ _ _ _ _ _ _ (drop_more ws i 0 (omega arith)) (drop_more cs i [] (omega arith)) c.in_ok-len.ensures.text (rw c.in_ok-len.ensures.len at c.in_ok-blanks.ensures) c.columns.invariant
+    put_cell _ _ _ _ _ _ _ _ _ _ _ (drop_more ws i 0 (omega arith)) (drop_more cs i [] (omega arith)) c.in_ok-len.ensures.text (search rules) c.columns.invariant
 
 -- no cell is left
 pub returns : goal.returns

@@ -1,5 +1,5 @@
-use Rattle.krb_show.proofs.Cited.{◌≡◌, ◌++◌, ◌∙◌, ap, sym, ℕ, [], ◌∷◌, Bool, true, false, cond, not, ◌+◌, drop, get_or, drop-cons, add-one, fold, with_number}
-use Rattle.krb_show.proofs.Distinct.{fresh, has_again, has_push, is_among, stale}
+use Rattle.krb_show.proofs.Cited.{arith, ◌≡◌, ◌++◌, ◌∙◌, ap, sym, ℕ, [], ◌∷◌, Bool, true, false, cond, not, ◌+◌, drop, get_or, drop-cons, add-one, fold, with_number}
+use Rattle.krb_show.proofs.Distinct.{has_again, has_push, is_among}
 use Rattle.krb_show.proofs.keys.distinct.Goals.{then-branch+in_ok-push, else-branch}
 use Rattle.krb_show.proofs.keys.distinct.Goals as goal
 
@@ -19,11 +19,11 @@ numbers-preserved g c =
     elim c.if-branch.branch [
       | then-branch+in_ok-push w ↦
           rw (w.each-is, w.in_ok-push.ensures.items) (record {
-            each = next false (fresh _ _ added w.if-branch.true);
+            each = next false (grind (arith, added, w.if-branch.true));
             seen = has_push c.numbers.seen c.insert.new.self each n has e.updates.0;
           })
       | else-branch w ↦
-          rw w.each-is (let among = stale _ _ added w.if-branch.false in record {
+          rw w.each-is (let among : is_among each n ≡ true = grind (arith, added, w.if-branch.false) in record {
             each = next true among;
             seen = has_again c.numbers.seen c.insert.new.self each n has e.updates.0 among;
           })
