@@ -179,12 +179,18 @@ typedef struct {
     uint32_t is_skey;                   /* 0 or 1 */
 } krbf_numbers;
 
+/* The types of a ticket's names. */
+typedef struct {
+    uint32_t client, server;
+} krbf_name_types;
+
 /* A ticket to store. */
 typedef struct {
     krbf_bytes client, server;          /* as text */
     krbf_bytes key, ticket, second_ticket;
     krbf_bytes addresses, authdata;     /* as krbf_cc_addresses and krbf_cc_authdata give them */
     krbf_numbers numbers;
+    krbf_name_types types;              /* 1 is NT-PRINCIPAL */
 } krbf_credential;
 
 /* How a ticket is encrypted. */
@@ -229,6 +235,9 @@ uint32_t krbf_cc_find(krbf_ccache *cc, const char *server, size_t server_len, kr
 uint32_t krbf_cc_client(krbf_ccache *cc, uint32_t place, char *room, size_t room_len, size_t *len);
 uint32_t krbf_cc_server(krbf_ccache *cc, uint32_t place, char *room, size_t room_len, size_t *len);
 
+/* Their types. KRBF_NOT_LIVE. */
+uint32_t krbf_cc_name_types(krbf_ccache *cc, uint32_t place, krbf_name_types *types);
+
 /* How the ticket at a place is encrypted, and the server that it names, as text: by its own bytes (RFC 4120 5.3).
  * KRBF_NOT_LIVE; KRBF_NOT_FOUND where these are not a ticket in DER, or name no server. */
 uint32_t krbf_cc_ticket_encryption(krbf_ccache *cc, uint32_t place, krbf_encryption *encryption);
@@ -239,20 +248,22 @@ uint32_t krbf_cc_ticket_server(krbf_ccache *cc, uint32_t place, char *room, size
 uint32_t krbf_cc_addresses(krbf_ccache *cc, uint32_t place, krbf_bytes *addresses);
 uint32_t krbf_cc_authdata(krbf_ccache *cc, uint32_t place, krbf_bytes *authdata);
 
-/* krb5_cc_store_cred: a ticket without addresses and authorization data, at the end. What is wrong with the names;
- * KRBF_TOO_LONG for an enctype above 65,535 or an is_skey above 1; KRBF_BAD_KEY, KRBF_READ_ONLY, KRBF_DAMAGED,
- * KRBF_MARKED, KRBF_FULL. */
+/* krb5_cc_store_cred: a ticket without addresses and authorization data, at the end. Its names have type 1. What is
+ * wrong with the names; KRBF_TOO_LONG for an enctype above 65,535 or an is_skey above 1; KRBF_BAD_KEY, KRBF_READ_ONLY,
+ * KRBF_DAMAGED, KRBF_MARKED, KRBF_FULL. */
 uint32_t krbf_cc_store(krbf_ccache *cc, const char *client, size_t client_len, const char *server, size_t server_len,
                        const uint8_t *key, size_t key_len, const uint8_t *ticket, size_t ticket_len,
                        const uint8_t *second_ticket, size_t second_ticket_len, const krbf_numbers *numbers,
                        uint32_t *place);
 
-/* The same with the two lists. KRBF_TOO_LONG, after KRBF_BAD_KEY, where an item of one goes beyond its end. */
+/* The same with the two lists and the types of both names. KRBF_TOO_LONG, after KRBF_BAD_KEY, where an item of a list
+ * goes beyond its end. */
 uint32_t krbf_cc_store_with(krbf_ccache *cc, const char *client, size_t client_len, const char *server,
                             size_t server_len, const uint8_t *key, size_t key_len, const uint8_t *ticket,
                             size_t ticket_len, const uint8_t *second_ticket, size_t second_ticket_len,
                             const uint8_t *addresses, size_t addresses_len, const uint8_t *authdata,
-                            size_t authdata_len, const krbf_numbers *numbers, uint32_t *place);
+                            size_t authdata_len, const krbf_numbers *numbers, const krbf_name_types *types,
+                            uint32_t *place);
 
 /* The same, of a struct. */
 static inline uint32_t krbf_cc_put(krbf_ccache *cc, const krbf_credential *credential, uint32_t *place) {
@@ -260,7 +271,7 @@ static inline uint32_t krbf_cc_put(krbf_ccache *cc, const krbf_credential *crede
     return krbf_cc_store_with(cc, (const char *)c->client.at, c->client.len, (const char *)c->server.at,
                               c->server.len, c->key.at, c->key.len, c->ticket.at, c->ticket.len,
                               c->second_ticket.at, c->second_ticket.len, c->addresses.at, c->addresses.len,
-                              c->authdata.at, c->authdata.len, &c->numbers, place);
+                              c->authdata.at, c->authdata.len, &c->numbers, &c->types, place);
 }
 
 /* krb5_cc_remove_cred, of the ticket at a place: it is marked as removed. KRBF_READ_ONLY, KRBF_DAMAGED,

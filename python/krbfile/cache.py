@@ -6,16 +6,16 @@ from dataclasses import dataclass, field
 from datetime import datetime, timedelta
 
 from krbfile.files import AnyPath, file_name, make
-from krbfile.library import (NUMBERS, EncryptionRecord, Name, Numbers, Parts, TicketRecord, etype_of, found, in_utc,
-                             joined, named, number, parted, sized, text)
+from krbfile.library import (NUMBERS, EncryptionRecord, Name, NameTypes, Numbers, Parts, TicketRecord, etype_of, found,
+                             in_utc, joined, named, number, parted, sized, text)
 from krbfile.store import Store, loaded
 
 
 @dataclass(frozen=True)
 class Ticket:
     """A ticket or a configuration entry, and its place. Times are seconds since 1970; `addresses` and `authdata` are
-    pairs of a type and bytes. `ticket_enctype`, `ticket_kvno` and `ticket_server` are what `ticket` itself says, if it
-    can be read."""
+    pairs of a type and bytes; names have types too. `ticket_enctype`, `ticket_kvno` and `ticket_server` are what
+    `ticket` itself says, if it can be read."""
 
     place: int
     client: str
@@ -33,6 +33,8 @@ class Ticket:
     second_ticket: bytes = field(repr=False)
     addresses: Parts = ()
     authdata: Parts = field(default=(), repr=False)
+    client_type: int = 1
+    server_type: int = 1
     ticket_enctype: int | None = field(default=None, compare=False)
     ticket_kvno: int | None = field(default=None, compare=False)
     ticket_server: str | None = field(default=None, compare=False)
@@ -99,12 +101,15 @@ class Cache(Store[Ticket]):
         place = c_uint32(ticket.place)
         numbers = {name: getattr(ticket, name) for name in NUMBERS if name != "is_skey"}
         own, own_server = EncryptionRecord(), found(self._name, "ticket_server", place)
+        types = NameTypes()
+        self._do("name_types", place, byref(types))
         is_read = found(self._do, "ticket_encryption", place, byref(own))
         return Ticket(
             place=ticket.place, client=text(self._name("client", place)), server=text(self._name("server", place)),
             key=ticket.key.read(), ticket=ticket.ticket.read(), second_ticket=ticket.second_ticket.read(),
             is_skey=bool(ticket.is_skey), is_config=bool(ticket.is_config), **numbers,
             addresses=parted(self._bytes("addresses", place)), authdata=parted(self._bytes("authdata", place)),
+            client_type=types.client, server_type=types.server,
             ticket_enctype=own.enctype if is_read else None, ticket_kvno=own.kvno if own.has_kvno else None,
             ticket_server=None if own_server is None else text(own_server),
         )
@@ -119,8 +124,8 @@ class Cache(Store[Ticket]):
         return self._found(server)
 
     def store(self, ticket: Ticket) -> int:
-        """Stores a ticket, ignoring its `place`, and returns the place where it is stored. Its names get type 1. So one
-        of another cache is copied:
+        """Stores a ticket, ignoring its `place`, and returns the place where it is stored. So one of another
+        cache is copied:
 
             ticket = Cache.load("alice.ccache").find("krbtgt/EXAMPLE.ORG@EXAMPLE.ORG")
             with edit_cache("krb5cc_0") as cache:
@@ -132,7 +137,8 @@ class Cache(Store[Ticket]):
         names = (*named(ticket.client), *named(ticket.server))
         parts = (*sized(ticket.key), *sized(ticket.ticket), *sized(ticket.second_ticket))
         lists = (*joined(ticket.addresses), *joined(ticket.authdata))
-        self._change("store_with", *names, *parts, *lists, byref(numbers), byref(place))
+        types = NameTypes(number(c_uint32, ticket.client_type), number(c_uint32, ticket.server_type))
+        self._change("store_with", *names, *parts, *lists, byref(numbers), byref(types), byref(place))
         return place.value
 
     def config(self, key: Name, principal: Name = b"") -> bytes | None:

@@ -94,6 +94,10 @@ class Numbers(ctypes.Structure):
     _fields_ = [(name, c_uint32) for name in NUMBERS]
 
 
+class NameTypes(ctypes.Structure):
+    _fields_ = [("client", c_uint32), ("server", c_uint32)]
+
+
 class TicketRecord(ctypes.Structure):
     _fields_ = [
         *((name, c_uint32) for name in ("place", *NUMBERS, "is_config")),

@@ -37,10 +37,11 @@ static const uint8_t AUTHDATA[] = {0, 1, 0, 0, 0, 1, 0x30};
 #define BYTES(bytes) {(bytes), sizeof(bytes)}
 #define TEXT_BYTES(text) {(const uint8_t *)(text), sizeof(text) - 1}
 
-/* A credential of all these. */
+/* A credential of all these, whose server has the type 2, NT-SRV-INST. */
+static const krbf_name_types TYPES = {1, 2};
 static const krbf_credential WHOLE = {
     TEXT_BYTES("u@R"), TEXT_BYTES("host/a@R"), BYTES(KEY), BYTES(OWN), {NULL, 0}, BYTES(ADDRESSES), BYTES(AUTHDATA),
-    {17, 1, 0, 2, 0, 0, 0}};
+    {17, 1, 0, 2, 0, 0, 0}, {1, 2}};
 
 static uint8_t image[1 << 12];
 

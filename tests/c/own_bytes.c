@@ -67,7 +67,7 @@ static void store(void) {
     CHECK(krbf_cc_authdata(&cc, ticket.place, &authdata) == KRBF_DONE && authdata.len == sizeof AUTHDATA);
     CHECK(krbf_cc_store_with(&cc, GIVEN_TEXT(value_of("client")), GIVEN_TEXT(value_of("server")), GIVEN(ticket.key),
                              GIVEN(ticket.ticket), GIVEN(ticket.second_ticket), GIVEN(addresses), GIVEN(authdata),
-                             &NUMBERS, &place) == KRBF_DONE);
+                             &NUMBERS, &TYPES, &place) == KRBF_DONE);
 }
 
 /* A value under another key and principal, each of which is a value too. */
@@ -107,7 +107,7 @@ static void make(void) {
                                  &place) == KRBF_DONE);
     CHECK(krbf_cc_store_with(&cc, TEXT("u@R"), TEXT("host/a@R"), KEY, sizeof KEY, ticket, sizeof ticket, second,
                              sizeof second, ADDRESSES, sizeof ADDRESSES, AUTHDATA, sizeof AUTHDATA, &NUMBERS,
-                             &place) == KRBF_DONE);
+                             &TYPES, &place) == KRBF_DONE);
     CHECK(krbf_kt_image(&kt, &of_keytab) == KRBF_DONE);
     keytab_len = of_keytab.len;
     len = keep(before);
@@ -227,8 +227,10 @@ static int are(krbf_bytes bytes, const uint8_t *due, size_t due_len) {
 static void own_parts(void) {
     krbf_bytes addresses, authdata;
     krbf_encryption encryption;
+    krbf_name_types types = {0};
     char text[4] = "";
     CHECK(krbf_cc_create(TEXT("u@R"), 0, &cc) == KRBF_DONE && krbf_cc_put(&cc, &WHOLE, &place) == KRBF_DONE);
+    CHECK(krbf_cc_name_types(&cc, place, &types) == KRBF_DONE && types.client == 1 && types.server == 2);
     CHECK(krbf_cc_ticket_encryption(&cc, place, &encryption) == KRBF_DONE);
     CHECK(encryption.enctype == 18 && encryption.kvno == 3 && encryption.has_kvno == 1);
     CHECK(krbf_cc_ticket_server(&cc, place, text, sizeof text, &len) == KRBF_DONE && len == 3 && !strcmp(text, "h@R"));
@@ -240,6 +242,7 @@ static void own_parts(void) {
     CHECK(krbf_cc_addresses(&cc, place, &addresses) == KRBF_DONE && !addresses.at && !addresses.len);
     CHECK(krbf_cc_authdata(&cc, 1, &authdata) == KRBF_NOT_LIVE && authdata.len == sizeof AUTHDATA);
     CHECK(krbf_cc_ticket_server(&cc, 1, text, sizeof text, &len) == KRBF_NOT_LIVE);
+    CHECK(krbf_cc_name_types(&cc, 1, &types) == KRBF_NOT_LIVE && types.server == 2);
 }
 
 /* What refuses a ticket, in order: each is mended before the next. */

@@ -36,7 +36,8 @@ IN_C = {
     **{f"u{bits}": [f"uint{bits}_t"] for bits in (16, 32)},
     "&[u8]": ["const bytes *", "size_t"], "&mut [u8]": ["bytes *", "size_t"], "&mut [u32]": ["uint32_t *", "size_t"],
     "&mut u32": ["uint32_t *"], "&mut i32": ["int32_t *"], "&mut usize": ["size_t *"],
-    "&KrbfNumbers": ["const krbf_numbers *"],
+    "&KrbfNumbers": ["const krbf_numbers *"], "&KrbfNameTypes": ["const krbf_name_types *"],
+    "&mut KrbfNameTypes": ["krbf_name_types *"],
     **{f"&mut Krbf{name}": [f"krbf_{name.lower()} *"]
        for name in ("Bytes", "Entry", "Ticket", "Keytab", "Ccache", "Encryption")},
 }

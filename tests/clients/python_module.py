@@ -234,7 +234,7 @@ print([what for what in (entry, ticket, keytab, cache) if "secret" in repr(what)
 # The keytab and the cache that the first two scripts leave. HOST has 51 bytes, B 45: c@R takes the place of HOST.
 KEYTAB_AFTER = keytab(Entry((b"c",), key=bytes(16), version8=7, version32=7, timestamp=5), B)
 CACHE_AFTER = cache(config(b"pa_type", b"3", b"krbtgt/R@R"),
-                    Credential(server=Name((b"host", b"a")), is_skey=1, second_ticket=b"2"), fields=OFFSET)
+                    Credential(server=Name((b"host", b"a"), name_type=2), is_skey=1, second_ticket=b"2"), fields=OFFSET)
 
 SCRIPTS: tuple[Script, ...] = (
     ("keytabs", KEYTABS, TWO, [

@@ -5,16 +5,14 @@ import re
 from dataclasses import replace
 
 from keytabs.checks import EACH
-from makers.images import HOST, KRBTGT, OFFSET, PA_TYPE, TICKET, TWO, U, Name, cache, keytab, ticket_of
+from makers.images import HOST, OFFSET, PA_TYPE, TICKET, TWO, U, Name, cache, keytab, ticket_of
 from makers.samples import REALM, SAMPLES, alices
 from names.matches import JUDGED, OWN, judged
 
-# A ticket with all that one can have, one that cannot be read, and a setting; they are copied into another cache, where
-# names have type 1.
+# A ticket with all that one can have, one that cannot be read, and a setting; they are copied into another cache.
 WHOLE = ticket_of(Name((b"host", b"a")), 18, 2**32 - 1, server=U, starttime=1, endtime=2**32 - 1, renew_till=2**31,
                   addresses=((2, bytes(4)), (65_535, b"")), authdata=((1, b"data"),), second_ticket=b"2")
 PLAIN = replace(TICKET, authtime=0)
-COPIED = cache(WHOLE, replace(PLAIN, server=replace(KRBTGT, name_type=1)), PA_TYPE)
 TICKETS = """
 cache = Cache.open(image)
 print(cache.offset, len(cache), Cache.create("u@R").offset, len(Cache.create("u@R")))
@@ -84,7 +82,7 @@ SCRIPTS = (
         "2023-11-14 22:13:20+00:00, 1970-01-01 00:00:01+00:00, 2106-02-07 06:28:15+00:00, 2038-01-19 03:14:08+00:00",
         "None None None () ()", "None, None, 2023-11-15 08:13:20+00:00, None",
         "None None None () ()", "None, None, None, None",
-        f"[22, 208, 316] {COPIED.hex()}", "True 3",
+        f"[22, 208, 316] {cache(WHOLE, PLAIN, PA_TYPE).hex()}", "True 3",
     ]),
     ("which entries open tickets", OPENS, "".join(
         f"{image.hex()} {cache(*(each for each, _ in rows)).hex()}\n" for image, rows in ROWS).encode(),

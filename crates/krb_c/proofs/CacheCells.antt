@@ -7,7 +7,7 @@ use Rattle.krb_cells.specs.Contents.{Contents, contents, IsCell}
 use Rattle.krb_cells.proofs.ContentsLemmas.{contents_spelled}
 use Rattle.krb_ccache.specs.declared.open.CcOpenFault.{CcOpenFault}
 use Rattle.krb_ccache.specs.declared.open.CcOpenFault.TheVariants.{TooShort, TooLarge}
-use Rattle.krb_ccache.specs.Credential.{CredParts, credential, credential_at, credential_in, is_marked}
+use Rattle.krb_ccache.specs.Credential.{CredParts, credential, credential_at, credential_in}
 use Rattle.krb_ccache.specs.Open.{Reopens}
 use Rattle.krb_ccache.proofs.HeaderFields.{header_takes}
 use Rattle.krb_ccache.proofs.CellLemmas.{credentials_are}
@@ -22,9 +22,6 @@ record WasRead (k : CacheState) : Type 0 where
   fits : IsBytes bytes
   are : k.contents ≡ contents (credentials_format k.version) bytes
 
-abbrev Opened : Type 0
-Opened = Result CacheState CcOpenFault
-
 default_read : (v : Version) (limit : ℕ) (xs : List Field) (bytes : List ℕ) (o : Option (Parts × List ℕ)) (k : CacheState) → IsBytes bytes → cc_principal_at bytes ≡ o → open_default v limit xs o ≡ Ok k → WasRead k
 default_read v limit xs bytes None k fits is e = absurd cc
 default_read v limit xs bytes (Some p) k fits is e =
@@ -35,7 +32,7 @@ header_read : (v : Version) (limit : ℕ) (bytes : List ℕ) (o : Option (List F
 header_read v limit bytes None k fits is e = absurd cc
 header_read v limit bytes (Some h) k fits is e = default_read v limit h.0 h.1 (cc_principal_at h.1) k (header_takes v bytes h fits is).rest_fits refl e
 
-unless : (refused : Bool) (why : CcOpenFault) (opened : Opened) (k : CacheState) → cond refused (Err why) opened ≡ Ok k → opened ≡ Ok k
+unless : (refused : Bool) (why : CcOpenFault) (opened : Result CacheState CcOpenFault) (k : CacheState) → cond refused (Err why) opened ≡ Ok k → opened ≡ Ok k
 unless refused why opened k e = search arith
 
 version_read : (limit : ℕ) (bytes : List ℕ) (o : Option Version) (k : CacheState) → IsBytes bytes → open_version limit bytes o ≡ Ok k → WasRead k
@@ -54,12 +51,9 @@ cells_sound k image fits again =
 
 -- ---- the credential at a place
 
-live_same : (b : Bool) (c x : CredParts) → cond b None (Some c) ≡ Some x → c ≡ x
-live_same b c x e = grind (arith, e)
-
 found_by : (v : Version) (at p : ℕ) (c x : CredParts) (cs : List CredParts) (b : Bool) → (live_of (find (λ y. y.0 == p) (placed_from v (at + length (credential v c)) cs)) ≡ Some x → IsCell (credentials_format v) x) → IsCell (credentials_format v) c
     → live_of (cond b (Some (at, c)) (find (λ y. y.0 == p) (placed_from v (at + length (credential v c)) cs))) ≡ Some x → IsCell (credentials_format v) x
-found_by v at p c x cs true others cell e = subst (IsCell (credentials_format v)) (live_same (is_marked c) c x e) cell
+found_by v at p c x cs true others cell e = let same : c ≡ x = grind (arith, e) in subst (IsCell (credentials_format v)) same cell
 found_by v at p c x cs false others cell e = others e
 
 found_cell : (v : Version) (at p : ℕ) (cs : List CredParts) (x : CredParts) → AllByRecursion (IsCell (credentials_format v)) cs → live_of (find (λ y. y.0 == p) (placed_from v at cs)) ≡ Some x → IsCell (credentials_format v) x

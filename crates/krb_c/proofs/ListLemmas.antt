@@ -1,9 +1,9 @@
 -- The lists of a credential are where it is spelled.
-use Rattle.krb_c.proofs.Cited.{◌≡◌, ◌++◌, ◌∙◌, ℕ, List, [], Option, Some, None, option_map, length, refl, sym, ap, subst, arith, Version, CacheState, store_of, live_bytes, credential_at_place}
-use Rattle.std.specs.Prelude.{take, ◌-◌, unwrap_or, IsSomeAnd}
+use Rattle.krb_c.proofs.Cited.{◌≡◌, ◌++◌, ◌∙◌, ℕ, List, Option, Some, None, option_map, length, refl, sym, ap, arith, Version, CacheState, store_of, live_bytes, credential_at_place}
+use Rattle.std.specs.Prelude.{IsSomeAnd}
 use Rattle.std.specs.List.{flat_map}
 use Rattle.std.proofs.lemmas.List.{take_at, length-append, append_assoc}
-use Rattle.krb_wire.proofs.Fields.{IsBytes}
+use Rattle.krb_wire.proofs.Fields.{IsBytes, some_is}
 use Rattle.krb_wire.proofs.ReadLists.{list_again}
 use Rattle.krb_wire.proofs.Principals.{cc_principal_field}
 use Rattle.krb_ccache.specs.Credential.{CredParts, TypedData, FitsCredential, FitsTypedList, credential, credential_at, credential_in, typed_data, typed_list, number32}
@@ -14,14 +14,13 @@ use Rattle.krb_ccache.specs.Open.{Reopens}
 use Rattle.krb_c.proofs.CacheCells.{read_there}
 unfoldable use Rattle.krb_c.specs.Lists.{list_bytes_at, lists_in}
 
-front : (a b : List ℕ) → take (length (a ++ b) - length b) (a ++ b) ≡ a
-front a b = take_at a b _ (omega (arith, length-append a b))
-
 list_read : (xs : List TypedData) (rest : List ℕ) → FitsTypedList xs → list_bytes_at (typed_list xs ++ rest) ≡ Some (flat_map typed_data xs, rest)
 unfolding list_bytes_at
 list_read xs rest fits =
-    ap list_bytes_at (append_assoc (number32 (length xs)) (flat_map typed_data xs) rest)
-    ∙ rw (field32.again (length xs) (flat_map typed_data xs ++ rest) fits.count, list_again typed_field xs rest fits.each) (ap (λ (b : List ℕ). Some (b, rest)) (front (flat_map typed_data xs) rest))
+    let a = flat_map typed_data xs in
+    ap list_bytes_at (append_assoc (number32 (length xs)) a rest)
+    ∙ rw (field32.again (length xs) (a ++ rest) fits.count, list_again typed_field xs rest fits.each)
+    (ap (λ (b : List ℕ). Some (b, rest)) (take_at a rest _ (omega (arith, length-append a rest))))
 
 lists_read : (v : Version) (c : CredParts) → FitsCredential v c → lists_in v (credential v c) ≡ Some (flat_map typed_data c.addresses, flat_map typed_data c.authdata)
 unfolding lists_in
@@ -50,10 +49,6 @@ lists_there k p bytes c fits there read live =
     let same : bytes ≡ credential k.version c = cc in
     ap (lists_in k.version) same ∙ lists_read k.version c all.1
 
-never_none : (o : Option (List ℕ × List ℕ)) (x : List ℕ × List ℕ) → o ≡ None → o ≡ Some x → ⊥
-never_none None x none some = absurd cc
-never_none (Some y) x none some = absurd cc
-
 module _ (k : CacheState) (image bytes : List ℕ) (p : ℕ) (image_fits : IsBytes image) (again : Reopens k image) (fits : IsBytes bytes) (live : live_bytes (store_of k) p ≡ Some bytes) (v : Version) (is : v ≡ k.version) where
   -- the credential there
   abbrev cell : CredParts
@@ -66,10 +61,9 @@ module _ (k : CacheState) (image bytes : List ℕ) (p : ℕ) (image_fits : IsByt
   read = ap (λ (w : Version). lists_in w bytes) is ∙ lists_there k p bytes cell fits there (read_there k image bytes p image_fits again live).read live
 
   pub lists_read_there : lists_in v bytes ≡ None → ⊥
-  lists_read_there none = never_none _ _ none read
+  lists_read_there none = let some = read in absurd cc
 
   pub lists_are : (a b : List ℕ) → lists_in v bytes ≡ Some (a, b) → IsSomeAnd (credential_at_place k p) (λ c. (a ≡ flat_map typed_data c.addresses) × (b ≡ flat_map typed_data c.authdata))
   lists_are a b e =
-      let same = sym e ∙ read in
-      let of : (List ℕ × List ℕ → List ℕ) → Option (List ℕ × List ℕ) → List ℕ = λ part o. unwrap_or (option_map part o) [] in
-      subst (λ (o : Option CredParts). IsSomeAnd o (λ c. (a ≡ flat_map typed_data c.addresses) × (b ≡ flat_map typed_data c.authdata))) (sym there) (ap (of (λ x. x.0)) same, ap (of (λ x. x.1)) same)
+      let same = some_is (a, b) (flat_map typed_data cell.addresses, flat_map typed_data cell.authdata) (sym e ∙ read) in
+      rw there (ap (λ (x : List ℕ × List ℕ). x.0) same, ap (λ (x : List ℕ × List ℕ). x.1) same)

@@ -4,13 +4,10 @@ use Rattle.krb_wire.specs.declared.name_fault.NameFault.{NameFault}
 use Rattle.krb_wire.specs.declared.name_fault.NameFault.TheVariants.{NoMemory}
 use Rattle.krb_c.specs.Text.{ByName, IsUnread}
 
-memory_fault : (named : Result Parts NameFault) (fault : NameFault) → fault ≡ NoMemory → IsOk named → IsUnread named (name_status fault)
-memory_fault (Ok name) fault e ok = rw e refl
-memory_fault (Err other) fault e ok = search
-
 pub fault_is : (named : Result Parts NameFault) (fault : NameFault) → (named ≡ Err fault) ⊎ ((fault ≡ NoMemory) × IsOk named) → IsUnread named (name_status fault)
 fault_is named fault (inl e) = rw e refl
-fault_is named fault (inr x) = memory_fault named fault x.0 x.1
+fault_is (Ok name) fault (inr x) = rw x.0 refl
+fault_is (Err other) fault (inr x) = let is_ok = x.1 in search
 
 pub unread : (Does : Parts → Type 0) (Refuses : ℕ → Type 0) (named : Result Parts NameFault) (status : ℕ) → IsUnread named status → Refuses status → ByName Does Refuses named
 unread Does Refuses (Ok name) status e refused = inr (subst Refuses e refused)

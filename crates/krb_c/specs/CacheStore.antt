@@ -7,13 +7,14 @@ use Rattle.krb_ccache.specs.Credential.{CredParts, TypedData, plain_key}
 use Rattle.krb_ccache.specs.Store.{CacheState}
 use Rattle.krb_ccache.specs.Changes.{put_result}
 use Rattle.krb_c.specs.declared.cache.changes.KrbfNumbers.{KrbfNumbers}
+use Rattle.krb_c.specs.declared.cache.changes.KrbfNameTypes.{KrbfNameTypes}
 use Rattle.krb_c.specs.Lists.{items_in}
 use Rattle.krb_c.specs.Status.{AddsOr, Refuses}
 use Rattle.krb_c.specs.Text.{ByName}
 
 -- ---- what a credential is made of
 
--- the texts of its names, its key, its tickets, its addresses and authorization data, and its numbers
+-- the texts of its names, its key, its tickets, its addresses and authorization data, its numbers, and the types of its names
 pub record NewCredentialParts : Type 0 where
   pub client : List ℕ
   pub server : List ℕ
@@ -23,11 +24,12 @@ pub record NewCredentialParts : Type 0 where
   pub addresses : List ℕ
   pub authdata : List ℕ
   pub numbers : KrbfNumbers
+  pub types : KrbfNameTypes
 
 -- the parts of the credential that the arguments of a call describe
-abbrev pub new_credential_of : List ℕ → List ℕ → List ℕ → List ℕ → List ℕ → List ℕ → List ℕ → KrbfNumbers → NewCredentialParts
-new_credential_of client server key ticket second_ticket addresses authdata numbers =
-    record { client = client; server = server; key = key; ticket = ticket; second_ticket = second_ticket; addresses = addresses; authdata = authdata; numbers = numbers }
+abbrev pub new_credential_of : List ℕ → List ℕ → List ℕ → List ℕ → List ℕ → List ℕ → List ℕ → KrbfNumbers → KrbfNameTypes → NewCredentialParts
+new_credential_of client server key ticket second_ticket addresses authdata numbers types =
+    record { client = client; server = server; key = key; ticket = ticket; second_ticket = second_ticket; addresses = addresses; authdata = authdata; numbers = numbers; types = types }
 
 -- an enctype has sixteen bits, and is_skey is 0 or 1
 abbrev pub numbers_fit : KrbfNumbers → Bool
@@ -36,8 +38,8 @@ numbers_fit n = nat_lt n.enctype 65536 && nat_lt n.is_skey 2
 -- the credential of a client and a server, with these addresses and this authorization data
 abbrev pub credential_between : NewCredentialParts → Parts → Parts → List TypedData → List TypedData → CredParts
 credential_between a client server addresses authdata = record {
-  client = client;
-  server = server;
+  client = record client { name_type = a.types.client };
+  server = record server { name_type = a.types.server };
   key = plain_key a.numbers.enctype a.key;
   times = record { authtime = a.numbers.authtime; starttime = a.numbers.starttime; endtime = a.numbers.endtime; renew_till = a.numbers.renew_till };
   is_skey = a.numbers.is_skey;
@@ -59,6 +61,10 @@ abbrev pub with_parts : NewCredentialParts → Parts → Parts → Result CredPa
 with_parts a client server =
     if not (numbers_fit a.numbers) then Err 32 else if is_key_size a.numbers.enctype (length a.key)
     then with_lists a client server (items_in a.addresses) (items_in a.authdata) else Err 42
+
+-- the types of names that are of the type 1, NT-PRINCIPAL
+abbrev pub principals : KrbfNameTypes
+principals = record { client = 1; server = 1 }
 
 -- ---- what an addition returns
 

@@ -1,5 +1,5 @@
 -- Which keytab is opened for C, and which is created.
-use Rattle.std.specs.Prelude.{◌≡◌, ◌⊎◌, ℕ, zero, suc, List, Option, Some, None, IsOk}
+use Rattle.std.specs.Prelude.{◌≡◌, ◌⊎◌, ℕ, zero, suc, List, Option, Some, None}
 use Rattle.krb_wire.specs.declared.format.Order.{Order}
 use Rattle.krb_wire.specs.declared.format.Order.TheVariants.{Big, Little}
 use Rattle.krb_wire.specs.declared.format.KtFormat.TheVariants.{V2}
@@ -18,11 +18,6 @@ order_of_flag (suc n) = Big
 abbrev pub OpensImage : ℕ → List ℕ → Option ℕ → ℕ → Handle → Type 0
 OpensImage v1_big image (Some limit) status kt = Opens kt_open_status (open_result (order_of_flag v1_big) limit image) status (keytab_of kt) kt
 OpensImage v1_big image None status kt = OpensNone 13 status kt
-
--- an image is a keytab that the limit allows
-abbrev pub IsKeytab : ℕ → List ℕ → Option ℕ → Type 0
-IsKeytab v1_big image (Some limit) = IsOk (open_result (order_of_flag v1_big) limit image)
-IsKeytab v1_big image None = ⊥
 
 -- a keytab of version 2 without entries is created with a limit; 13 if it is not a limit
 abbrev pub Makes : Option ℕ → ℕ → Handle → Type 0

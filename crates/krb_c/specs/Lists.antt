@@ -1,20 +1,10 @@
 -- Addresses and authorization data as C sees and gives them: the bytes of whole items, one after the other, without their number.
-use Rattle.std.specs.Prelude.{◌≡◌, ℕ, zero, suc, List, [], ◌∷◌, length, take, ◌+◌, ◌-◌, Option, Some, None, option_map}
-use Rattle.std.specs.List.{flat_map}
+use Rattle.std.specs.Prelude.{ℕ, zero, suc, List, [], ◌∷◌, length, take, ◌+◌, ◌-◌, Option, Some, None}
 use Rattle.std.specs.Int.{w32}
 use Rattle.krb_wire.specs.declared.format.Order.TheVariants.{Big}
 use Rattle.krb_wire.specs.Reading.{◌>>=◌, byte_at, number_at, list_end, cc_principal_at}
 use Rattle.krb_ccache.specs.declared.version.Version.{Version}
-use Rattle.krb_ccache.specs.Credential.{CredParts, TypedData, typed_data, typed_data_at, key_at, times_at}
-use Rattle.krb_c.specs.declared.text.KrbfBytes.{KrbfBytes}
-use Rattle.krb_c.specs.Text.{AreShown}
-
--- the bytes of the items at a place are shown; 35 if no credential is there
-abbrev pub ShowsItems : (CredParts → List TypedData) → Option CredParts → ℕ → KrbfBytes → KrbfBytes → Type 0
-ShowsItems items (Some c) status seen new_seen = (status ≡ 0) × AreShown new_seen (flat_map typed_data (items c))
-ShowsItems items None status seen new_seen = (status ≡ 35) × (new_seen ≡ seen)
-
--- ---- what is given
+use Rattle.krb_ccache.specs.Credential.{TypedData, typed_data_at, key_at, times_at}
 
 -- the items of bytes, fewer than n of them, if the bytes are whole items
 unfoldable pub items_within : ℕ → List ℕ → Option (List TypedData)
@@ -38,22 +28,14 @@ list_bytes_at bytes = do
   rest ← list_end typed_data_at count.0 count.1
   Some (take (length count.1 - length rest) count.1, rest)
 
--- the bytes after the session key that bytes begin with
-abbrev pub after_key : Version → List ℕ → Option (List ℕ)
-after_key v bytes = option_map (λ x. x.1) (key_at v bytes)
-
--- the bytes after the times that bytes begin with
-abbrev pub after_times : List ℕ → Option (List ℕ)
-after_times bytes = option_map (λ x. x.1) (times_at bytes)
-
 -- the bytes of the two lists of the credential that bytes begin with
 unfoldable pub lists_in : Version → List ℕ → Option (List ℕ × List ℕ)
 lists_in v bytes = do
   client ← cc_principal_at bytes
   server ← cc_principal_at client.1
-  key ← after_key v server.1
-  times ← after_times key
-  is_skey ← byte_at times
+  key ← key_at v server.1
+  times ← times_at key.1
+  is_skey ← byte_at times.1
   flags ← number_at Big w32 is_skey.1
   addresses ← list_bytes_at flags.1
   authdata ← list_bytes_at addresses.1

@@ -23,14 +23,11 @@ abbrev pub ShowsOpener : Option ℕ → List PlacedEntry → Option PlacedEntry 
 ShowsOpener asked xs (Some x) status seen new_seen = (status ≡ 0) × Shows new_seen x.0 x.1
 ShowsOpener asked xs None status seen new_seen = (status ≡ why_none asked xs) × (new_seen ≡ seen)
 
--- the entry of a name that opens a ticket of a kvno, 0 if it asks for none, and an enctype
-abbrev pub OpensFor : ℕ → ℤ → List PlacedEntry → ℕ → KrbfEntry → KrbfEntry → Type 0
-OpensFor kvno etype xs = ShowsOpener (asked_version (Some kvno)) xs (opener (asked_version (Some kvno)) (entry_etype etype) xs)
-
--- the entry that opens a ticket for the server that a text names
+-- the entry that opens a ticket of a kvno, 0 if it asks for none, and an enctype, for the server that a text names
 unfoldable pub OpensNamed : KeytabState → Result Parts NameFault → ℕ → ℤ → ℕ → KrbfEntry → KrbfEntry → Type 0
 OpensNamed k server kvno etype status entry new_entry =
-    ByName (λ name. OpensFor kvno etype (named name (placed_entries k)) status entry new_entry) (λ why. (status ≡ why) × (new_entry ≡ entry)) server
+    let asked : Option ℕ = asked_version (Some kvno) in
+    ByName (λ name. ShowsOpener asked (named name (placed_entries k)) (opener asked (entry_etype etype) (named name (placed_entries k))) status entry new_entry) (λ why. (status ≡ why) × (new_entry ≡ entry)) server
 
 -- the entries of a name and an enctype
 abbrev pub keyed : Parts → ℕ → List PlacedEntry → List PlacedEntry

@@ -5,6 +5,7 @@ use Rattle.krb_ccache.specs.declared.offset.Offset.{Offset}
 use Rattle.krb_ccache.specs.declared.ticket.TicketEncryption.{TicketEncryption}
 use Rattle.krb_ccache.specs.Credential.{CredParts}
 use Rattle.krb_ccache.specs.Ticket.{ticket_encryption, ticket_server}
+use Rattle.krb_c.specs.declared.cache.changes.KrbfNameTypes.{KrbfNameTypes}
 use Rattle.krb_c.specs.declared.cache.own.KrbfEncryption.{KrbfEncryption}
 use Rattle.krb_c.specs.CacheLooks.{flag}
 use Rattle.krb_c.specs.Text.{CopiesTextOr}
@@ -32,3 +33,8 @@ ShowsEncryptionAt None status seen new_seen = (status ≡ 35) × (new_seen ≡ s
 abbrev pub CopiesOwnServer : Option CredParts → ℕ → List ℕ → List ℕ → ℕ → ℕ → Type 0
 CopiesOwnServer (Some c) = CopiesTextOr 39 (option_map name_text (ticket_server c.ticket))
 CopiesOwnServer None = CopiesTextOr 35 None
+
+-- the types of the names of the ticket at a place are shown; 35 if nothing is there
+abbrev pub ShowsNameTypes : Option CredParts → ℕ → KrbfNameTypes → KrbfNameTypes → Type 0
+ShowsNameTypes (Some c) status seen new_seen = (status ≡ 0) × (new_seen ≡ record { client = c.client.name_type; server = c.server.name_type })
+ShowsNameTypes None status seen new_seen = (status ≡ 35) × (new_seen ≡ seen)

@@ -64,7 +64,3 @@ Copies items status room new_room len new_len =
 abbrev pub CopiesTextOr : ℕ → Option (List ℕ) → ℕ → List ℕ → List ℕ → ℕ → ℕ → Type 0
 CopiesTextOr none (Some text) status room new_room len new_len = Copies text status room new_room len new_len
 CopiesTextOr none None status room new_room len new_len = (status ≡ none) × (new_room ≡ room) × (new_len ≡ len)
-
--- the text of a name of the record at a place is reported; 35 if there is no record
-abbrev pub CopiesTextAt : Option (List ℕ) → ℕ → List ℕ → List ℕ → ℕ → ℕ → Type 0
-CopiesTextAt = CopiesTextOr 35

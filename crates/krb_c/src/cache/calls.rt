@@ -11,13 +11,13 @@ ghost use Rattle.krb_ccache.specs.Changes.{cut_result};
 ghost use Rattle.krb_ccache.specs.SetConfig.{set_config_result};
 ghost use Rattle.krb_ccache.specs.Rewrite.{rewrite_result};
 ghost use Rattle.krb_c.specs.Held.{cache_of, Looks, Over};
-ghost use Rattle.krb_c.specs.Text.{Copies, CopiesTextAt, AreShown, LooksAt, ShowsBytes};
+ghost use Rattle.krb_c.specs.Text.{Copies, CopiesTextOr, AreShown, LooksAt, ShowsBytes};
 ghost use Rattle.krb_c.specs.CacheLooks.{Finds, text_or_none, Shows};
 ghost use Rattle.krb_c.specs.Walks.{StepsOver, with_cursors};
 ghost use Rattle.krb_c.specs.Status.{kind_number, Adds, Changes, Rewrites};
-ghost use Rattle.krb_c.specs.CacheStore.{Stores, new_credential_of};
+ghost use Rattle.krb_c.specs.CacheStore.{Stores, new_credential_of, principals};
 
-use crate::cache::changes::{KrbfNumbers, NewCredential, store};
+use crate::cache::changes::{KrbfNameTypes, KrbfNumbers, NewCredential, store};
 use crate::cache::looks::{KrbfTicket, find, shown, some_text};
 use crate::handle::{KrbfCcache, if_live, with_held};
 use crate::status::{DONE, kind_of};
@@ -89,7 +89,7 @@ pub extern "C" fn krbf_cc_client(
     len: &mut usize,
 ) -> u32
     requires { IsSome (cache_of cc.old) }
-    ensures copies { Looks (cache_of cc.old) (cache_of cc.new) (λ k. CopiesTextAt (option_map (λ c. name_text c.client) (credential_at_place k place))
+    ensures copies { Looks (cache_of cc.old) (cache_of cc.new) (λ k. CopiesTextOr 35 (option_map (λ c. name_text c.client) (credential_at_place k place))
         result room.old room.new len.old len.new) }
 {
     with_held!(cc, alloc, held => if_live!(held.cache().cred_at(place), credential => {
@@ -106,7 +106,7 @@ pub extern "C" fn krbf_cc_server(
     len: &mut usize,
 ) -> u32
     requires { IsSome (cache_of cc.old) }
-    ensures copies { Looks (cache_of cc.old) (cache_of cc.new) (λ k. CopiesTextAt (option_map (λ c. name_text c.server) (credential_at_place k place))
+    ensures copies { Looks (cache_of cc.old) (cache_of cc.new) (λ k. CopiesTextOr 35 (option_map (λ c. name_text c.server) (credential_at_place k place))
         result room.old room.new len.old len.new) }
 {
     with_held!(cc, alloc, held => if_live!(held.cache().cred_at(place), credential => {
@@ -184,12 +184,13 @@ pub extern "C" fn krbf_cc_store_with(
     addresses: &[u8],
     authdata: &[u8],
     numbers: &KrbfNumbers,
+    types: &KrbfNameTypes,
     place: &mut u32,
 ) -> u32
     requires { IsSome (cache_of cc.old) }
     ensures { Over (cache_of cc.old) (cache_of cc.new)
         (λ old new. Stores (new_credential_of client.now server.now key.now ticket.now second_ticket.now
-        addresses.now authdata.now numbers.now)
+        addresses.now authdata.now numbers.now types.now)
         old result place.old place.new new) }
 {
     let new_credential = NewCredential {
@@ -201,6 +202,7 @@ pub extern "C" fn krbf_cc_store_with(
         addresses,
         authdata,
         numbers: *numbers,
+        types: *types,
     };
     with_held!(cc, alloc, held => store(alloc, held.cache(), &new_credential, place))
 }
@@ -219,20 +221,26 @@ pub extern "C" fn krbf_cc_store(
 ) -> u32
     requires { IsSome (cache_of cc.old) }
     ensures { Over (cache_of cc.old) (cache_of cc.new)
-        (λ old new. Stores (new_credential_of client.now server.now key.now ticket.now second_ticket.now [] [] numbers.now)
+        (λ old new. Stores (new_credential_of client.now server.now key.now ticket.now second_ticket.now [] [] numbers.now principals)
         old result place.old place.new new) }
 {
-    let new_credential = NewCredential {
+    krbf_cc_store_with(
+        alloc,
+        cc,
         client,
         server,
         key,
         ticket,
         second_ticket,
-        addresses: &[],
-        authdata: &[],
-        numbers: *numbers,
-    };
-    with_held!(cc, alloc, held => store(alloc, held.cache(), &new_credential, place))
+        &[],
+        &[],
+        numbers,
+        &KrbfNameTypes {
+            client: 1,
+            server: 1,
+        },
+        place,
+    )
 }
 
 #[unsafe(no_mangle)]

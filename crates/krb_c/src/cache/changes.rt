@@ -4,7 +4,7 @@ ghost use Rattle.std.specs.Prelude.{◌≡◌, ◌⊎◌, Ok, Err, IfOk, IfErr};
 ghost use Rattle.krb_wire.specs.Reading.{principal_parts};
 ghost use Rattle.krb_ccache.specs.SetConfig.{set_config_result};
 ghost use Rattle.krb_c.specs.CacheLooks.{text_or_none};
-ghost use Rattle.krb_c.specs.CacheStore.{Stores, with_parts, numbers_fit};
+ghost use Rattle.krb_c.specs.CacheStore.{Stores, with_parts};
 ghost use Rattle.krb_c.specs.Status.{Adds};
 
 use crate::cache::HeldCache;
@@ -34,17 +34,16 @@ pub struct KrbfNumbers {
     pub is_skey: u32,
 }
 
-impl KrbfNumbers {
-    /// True if each fits its field: an enctype has sixteen bits, and `is_skey` is 0 or 1.
-    pub fn fit(&self) -> bool
-        ensures { result ≡ numbers_fit self.now }
-    {
-        self.enctype < 65_536 && self.is_skey < 2
-    }
+/// The types of a credential's names.
+#[repr(C)]
+#[derive(Clone, Copy)]
+pub struct KrbfNameTypes {
+    pub client: u32,
+    pub server: u32,
 }
 
-/// The parts of a credential to store: the texts of its names, its key, its tickets, its addresses and authorization
-/// data, and its numbers.
+/// The parts of a credential to store: the texts and the types of its names, its key, its tickets, its addresses and
+/// authorization data, and its numbers.
 #[derive(Drop)]
 pub struct NewCredential<'a> {
     pub client: &'a [u8],
@@ -55,6 +54,7 @@ pub struct NewCredential<'a> {
     pub addresses: &'a [u8],
     pub authdata: &'a [u8],
     pub numbers: KrbfNumbers,
+    pub types: KrbfNameTypes,
 }
 
 impl<'a> Model for NewCredential<'a> {
@@ -71,6 +71,7 @@ impl<'a> Model for NewCredential<'a> {
       addresses = a.addresses.now;
       authdata = a.authdata.now;
       numbers = a.numbers;
+      types = a.types;
     } };
 }
 
@@ -79,14 +80,14 @@ impl<'a> NewCredential<'a> {
     pub fn between(
         &self,
         alloc: Global,
-        client: Principal<Heap>,
-        server: Principal<Heap>,
+        mut client: Principal<Heap>,
+        mut server: Principal<Heap>,
     ) -> Result<Cred<Heap>, u32>
         ensures ok { IfOk result (λ c. with_parts self.now (principal_parts client) (principal_parts server) ≡ Ok c) }
         ensures err { IfErr result (λ s. (with_parts self.now (principal_parts client) (principal_parts server) ≡ Err s) ⊎ (s ≡ 1)) }
     {
         let numbers = self.numbers;
-        if !numbers.fit() {
+        if numbers.enctype >= 65_536 || numbers.is_skey >= 2 {
             return Err(of_code(Code::TooLong));
         }
         if !may_be(numbers.enctype as u16, self.key) {
@@ -97,6 +98,8 @@ impl<'a> NewCredential<'a> {
         let key = copied(alloc, self.key)?;
         let ticket = copied(alloc, self.ticket)?;
         let second_ticket = copied(alloc, self.second_ticket)?;
+        client.name_type = self.types.client;
+        server.name_type = self.types.server;
         Ok(Cred {
             client,
             server,
@@ -141,24 +144,8 @@ pub fn store(
 }
 
 impl Walked<Ccache<Heap>> {
-    // Sets a configuration value, and reports the place of its entry.
-    #[tactic(auto, using(crate::proofs::StoreLemmas::refused))]
-    fn set(&mut self, key: &[u8], principal: &[u8], value: &[u8], place: &mut u32) -> u32
-        ensures { Adds (set_config_result self.old.state key.now (text_or_none principal.now) value.now)
-            self.old.state result place.old place.new self.new.state }
-    {
-        self.given = None;
-        self.next = None;
-        match self.store.set_config(key, some_text(principal), value) {
-            Ok(put) => {
-                *place = put;
-                DONE
-            }
-            Err(refusal) => of_refusal(refusal),
-        }
-    }
-
     /// Sets a configuration value, whose bytes may be in the cache, and reports the place of its entry.
+    #[tactic(auto, using(crate::proofs::StoreLemmas::refused))]
     pub fn set_config(
         &mut self,
         alloc: Global,
@@ -177,6 +164,14 @@ impl Walked<Ccache<Heap>> {
         ) else {
             return NO_MEMORY;
         };
-        self.set(&key, &principal, &value, place)
+        self.given = None;
+        self.next = None;
+        match self.store.set_config(&key, some_text(&principal), &value) {
+            Ok(put) => {
+                *place = put;
+                DONE
+            }
+            Err(refusal) => of_refusal(refusal),
+        }
     }
 }

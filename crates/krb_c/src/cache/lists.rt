@@ -2,14 +2,15 @@
 //! their number.
 
 ghost use Rattle.std.specs.List.{flat_map};
-ghost use Rattle.std.specs.Prelude.{IsSome, IsSomeAnd, ◌≡◌, ◌⊎◌, ◌++◌, ◌∷◌, [], None, OnOk, Some, IfOk, IfErr};
+ghost use Rattle.std.specs.Prelude.{IsSome, IsSomeAnd, ◌≡◌, ◌⊎◌, ◌++◌, ◌∷◌, [], None, OnOk, Some, IfOk, IfErr, option_map};
 ghost use Rattle.krb_wire.specs.Reading.{Gives, list_end};
 ghost use Rattle.krb_walk.specs.Store.{live_bytes};
-ghost use Rattle.krb_ccache.specs.Credential.{owned_list, typed_data, typed_data_at, typed_data_of};
+ghost use Rattle.krb_ccache.specs.Credential.{key_at, owned_list, times_at, typed_data, typed_data_at, typed_data_of};
 ghost use Rattle.krb_ccache.specs.Laws.{AreBytes};
 ghost use Rattle.krb_ccache.specs.Store.{credential_at_place, store_of};
 ghost use Rattle.krb_c.specs.Held.{cache_of, Looks};
-ghost use Rattle.krb_c.specs.Lists.{after_key, after_times, items_in, list_bytes_at, lists_in, ShowsItems};
+ghost use Rattle.krb_c.specs.Lists.{items_in, list_bytes_at, lists_in};
+ghost use Rattle.krb_c.specs.Text.{AreShown, LooksAt};
 
 use crate::handle::{KrbfCcache, if_live, with_held};
 use crate::heap::{Heap, heap};
@@ -40,6 +41,7 @@ fn add_copy(alloc: Global, kind: u16, text: &[u8], items: &mut Items) -> Result<
 }
 
 /// Returns the items of a list, or the status that says why there are none.
+#[tactic(auto, using(crate::proofs::ItemLemmas::not_whole, crate::proofs::ItemLemmas::too_many, crate::proofs::ItemLemmas::goes_on))]
 pub fn copied_items(alloc: Global, bytes: &[u8]) -> Result<Items, u32>
     ensures ok { IfOk result (λ v. items_in bytes.now ≡ Some (owned_list v.items)) }
     ensures err { IfErr result (λ s. ((s ≡ 32) × (items_in bytes.now ≡ None)) ⊎ (s ≡ 1)) }
@@ -62,6 +64,7 @@ pub fn copied_items(alloc: Global, bytes: &[u8]) -> Result<Items, u32>
 }
 
 // Returns the bytes after `count` items, or `None` if the bytes begin with fewer.
+#[tactic(auto, using(krb_wire::proofs::ReadLists::goes_on, krb_wire::proofs::ReadLists::ends, krb_wire::proofs::ReadLists::is_done))]
 fn skip_items(count: u32, bytes: &[u8]) -> Option<&[u8]>
     ensures { Gives (λ x. x.now) result (list_end typed_data_at count bytes.now) }
 {
@@ -86,7 +89,7 @@ fn split_list(bytes: &[u8]) -> Option<(&[u8], &[u8])>
 
 #[tactic(auto, unfolding(krb_ccache::specs::Credential::key_at))]
 fn skip_key(version: Version, bytes: &[u8]) -> Option<&[u8]>
-    ensures { Gives (λ x. x.now) result (after_key version bytes.now) }
+    ensures { Gives (λ x. x.now) result (option_map (λ x. x.1) (key_at version bytes.now)) }
 {
     let (_, rest) = split_u16(Order::Big, bytes)?;
     let (_, rest) = match version {
@@ -99,7 +102,7 @@ fn skip_key(version: Version, bytes: &[u8]) -> Option<&[u8]>
 
 #[tactic(auto, unfolding(krb_ccache::specs::Credential::times_at))]
 fn skip_times(bytes: &[u8]) -> Option<&[u8]>
-    ensures { Gives (λ x. x.now) result (after_times bytes.now) }
+    ensures { Gives (λ x. x.now) result (option_map (λ x. x.1) (times_at bytes.now)) }
 {
     let (_, rest) = split_u32(Order::Big, bytes)?;
     let (_, rest) = split_u32(Order::Big, rest)?;
@@ -152,7 +155,8 @@ pub extern "C" fn krbf_cc_addresses(
 ) -> u32
     requires { IsSome (cache_of cc.old) }
     ensures shows { Looks (cache_of cc.old) (cache_of cc.new)
-        (λ k. ShowsItems (λ c. c.addresses) (credential_at_place k place) result addresses.old addresses.new) }
+        (λ k. LooksAt (λ seen _ c. AreShown seen (flat_map typed_data c.addresses)) (credential_at_place k place)
+        place result addresses.old addresses.new) }
 {
     with_held!(cc, alloc, held => if_live!(held.cache().store().cred_at(place), _found => {
         *addresses = bytes_of(lists_at(held.cache().store(), place).0);
@@ -169,7 +173,8 @@ pub extern "C" fn krbf_cc_authdata(
 ) -> u32
     requires { IsSome (cache_of cc.old) }
     ensures shows { Looks (cache_of cc.old) (cache_of cc.new)
-        (λ k. ShowsItems (λ c. c.authdata) (credential_at_place k place) result authdata.old authdata.new) }
+        (λ k. LooksAt (λ seen _ c. AreShown seen (flat_map typed_data c.authdata)) (credential_at_place k place)
+        place result authdata.old authdata.new) }
 {
     with_held!(cc, alloc, held => if_live!(held.cache().store().cred_at(place), _found => {
         *authdata = bytes_of(lists_at(held.cache().store(), place).1);

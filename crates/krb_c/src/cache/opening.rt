@@ -1,8 +1,8 @@
 //! Opening, creating and closing caches.
 
-ghost use Rattle.std.specs.Prelude.{◌≡◌, ◌≤◌, length, Err, None, IfOk, IfErr};
+ghost use Rattle.std.specs.Prelude.{◌≡◌, Err, None, IfOk, IfErr};
 ghost use Rattle.krb_wire.specs.NameOf.{name_of};
-ghost use Rattle.krb_ccache.specs.Store.{open_result, version_in};
+ghost use Rattle.krb_ccache.specs.Store.{open_result};
 ghost use Rattle.krb_c.specs.CacheOpens.{IsDeeper, OpensImage, Makes, opened_within};
 ghost use Rattle.krb_c.specs.Opens.{limit_of};
 
@@ -12,21 +12,9 @@ use crate::heap::{heap, limits_of};
 use crate::held::Held;
 use crate::status::{DONE, NO_MEMORY, TOO_LARGE, of_cc_open, of_refusal};
 use crate::text::read_name;
-use krb_ccache::{CcOpenFault, Ccache, Version};
+use krb_ccache::{CcOpenFault, Ccache};
 use krb_wire::Limits;
 use std::alloc::Global;
-
-// Returns the version by the first two bytes, or `None`.
-fn version_in(image: &[u8]) -> Option<Version>
-    requires { 2 ≤ length image.now }
-    ensures { result ≡ version_in image.now }
-{
-    match (image[0], image[1]) {
-        (5, 3) => Some(Version::V3),
-        (5, 4) => Some(Version::V4),
-        _ => None,
-    }
-}
 
 // Checks the length and the first two bytes of an image: `Err` if by these alone it is not a cache.
 #[tactic(auto, using(crate::proofs::Deeper::header_is_deeper))]
@@ -37,7 +25,9 @@ fn look_at_front(image: &[u8], limits: Limits) -> Result<(), CcOpenFault>
     if image.len() < 2 {
         return Err(CcOpenFault::TooShort);
     }
-    let _version = version_in(image).ok_or(CcOpenFault::BadVersion)?;
+    if image[0] != 5 || image[1] != 3 && image[1] != 4 {
+        return Err(CcOpenFault::BadVersion);
+    }
     if image.len() > limits.image() as usize {
         return Err(CcOpenFault::TooLarge);
     }

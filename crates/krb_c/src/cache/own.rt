@@ -4,14 +4,16 @@ ghost use Rattle.std.specs.Prelude.{◌≡◌, IsSome};
 ghost use Rattle.krb_ccache.specs.Header.{offset_in};
 ghost use Rattle.krb_ccache.specs.Store.{credential_at_place};
 ghost use Rattle.krb_c.specs.Held.{cache_of, Looks};
-ghost use Rattle.krb_c.specs.Own.{CopiesOwnServer, ReportsOffset, ShowsEncryptionAt, seen_encryption};
+ghost use Rattle.krb_c.specs.Own.{CopiesOwnServer, ReportsOffset, ShowsEncryptionAt, ShowsNameTypes, seen_encryption};
 
+use crate::cache::changes::KrbfNameTypes;
 use crate::handle::{KrbfCcache, if_live, with_held};
 use crate::heap::heap;
 use crate::status::{DONE, NO_MEMORY, of_code};
 use crate::text::copy_name;
 use krb_ccache::{TicketEncryption, ticket_encryption, ticket_server};
 use krb_walk::Code;
+use krb_wire::Name;
 use std::alloc::Global;
 
 /// How a ticket is encrypted. `has_kvno` is 1 if it has a version, and else both are 0.
@@ -96,5 +98,25 @@ pub extern "C" fn krbf_cc_ticket_server(
             },
             None => of_code(Code::NotFound),
         }
+    }))
+}
+
+#[unsafe(no_mangle)]
+pub extern "C" fn krbf_cc_name_types(
+    alloc: Global,
+    cc: &mut KrbfCcache,
+    place: u32,
+    types: &mut KrbfNameTypes,
+) -> u32
+    requires { IsSome (cache_of cc.old) }
+    ensures shows { Looks (cache_of cc.old) (cache_of cc.new)
+        (λ k. ShowsNameTypes (credential_at_place k place) result types.old types.new) }
+{
+    with_held!(cc, alloc, held => if_live!(held.cache().cred_at(place), credential => {
+        *types = KrbfNameTypes {
+            client: credential.client().name_type(),
+            server: credential.server().name_type(),
+        };
+        DONE
     }))
 }

@@ -11,7 +11,7 @@ ghost use Rattle.krb_keytab.specs.Rewrite.{rewrite_result};
 ghost use Rattle.krb_c.specs.Held.{keytab_of, Looks, Over};
 ghost use Rattle.krb_c.specs.KeytabLooks.{Shows, Finds, ShowsPart, AddsNamed, ReadsBack, entry_with};
 ghost use Rattle.krb_c.specs.Walks.{StepsOver, with_cursors};
-ghost use Rattle.krb_c.specs.Text.{AreShown, LooksAt, CopiesTextAt};
+ghost use Rattle.krb_c.specs.Text.{AreShown, LooksAt, CopiesTextOr};
 ghost use Rattle.krb_c.specs.Status.{kind_number, Changes, Rewrites};
 
 use crate::handle::{KrbfKeytab, if_live, with_held};
@@ -96,7 +96,7 @@ pub extern "C" fn krbf_kt_name(
     len: &mut usize,
 ) -> u32
     requires { IsSome (keytab_of kt.old) }
-    ensures copies { Looks (keytab_of kt.old) (keytab_of kt.new) (λ k. CopiesTextAt (option_map (λ e. name_text e.principal) (entry_at_place k place)) result room.old room.new len.old len.new) }
+    ensures copies { Looks (keytab_of kt.old) (keytab_of kt.new) (λ k. CopiesTextOr 35 (option_map (λ e. name_text e.principal) (entry_at_place k place)) result room.old room.new len.old len.new) }
 {
     with_held!(kt, alloc, held => if_live!(held.keytab().store().entry_at(place), entry => {
         copy_name(alloc, entry.principal(), room, len)

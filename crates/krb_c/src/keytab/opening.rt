@@ -1,9 +1,9 @@
 //! Opening, creating and closing keytabs.
 
-ghost use Rattle.std.specs.Prelude.{◌≡◌, ◌≤◌, ◌⊎◌, length, Some, None, Err, IsOk, IfOk, IfErr};
-ghost use Rattle.krb_keytab.specs.Store.{format_of, open_result};
+ghost use Rattle.std.specs.Prelude.{◌≡◌, ◌⊎◌, Some, None, Err, IsOk, IfOk, IfErr, IsSomeAnd};
+ghost use Rattle.krb_keytab.specs.Store.{open_result};
 ghost use Rattle.krb_c.specs.Held.{keytab_of};
-ghost use Rattle.krb_c.specs.KeytabOpens.{IsKeytab, Makes, OpensImage, order_of_flag};
+ghost use Rattle.krb_c.specs.KeytabOpens.{Makes, OpensImage, order_of_flag};
 ghost use Rattle.krb_c.specs.Opens.{limit_of, OpensNone};
 
 use crate::handle::KrbfKeytab;
@@ -15,29 +15,6 @@ use krb_keytab::{Indexed, Keytab, KtOpenFault};
 use krb_wire::{KtFormat, Limits, NoMemory, Order};
 use std::alloc::Global;
 
-// Returns the byte order of version 1.
-fn order_of(v1_big: u32) -> Order
-    ensures { result ≡ order_of_flag v1_big }
-{
-    if v1_big == 0 {
-        Order::Little
-    } else {
-        Order::Big
-    }
-}
-
-// Returns the format by the first two bytes, or `None`.
-fn format_in(v1_order: Order, image: &[u8]) -> Option<KtFormat>
-    requires { 2 ≤ length image.now }
-    ensures { result ≡ format_of v1_order image.now }
-{
-    match (image[0], image[1]) {
-        (5, 1) => Some(KtFormat::V1(v1_order)),
-        (5, 2) => Some(KtFormat::V2),
-        _ => None,
-    }
-}
-
 // Checks the length and the first two bytes of an image, which decide whether it is a keytab.
 fn look_at_front(image: &[u8], v1_order: Order, limits: Limits) -> Result<(), KtOpenFault>
     ensures ok { IfOk result (λ _. IsOk (open_result v1_order limits image.now)) }
@@ -46,7 +23,9 @@ fn look_at_front(image: &[u8], v1_order: Order, limits: Limits) -> Result<(), Kt
     if image.len() < 2 {
         return Err(KtOpenFault::TooShort);
     }
-    let _format = format_in(v1_order, image).ok_or(KtOpenFault::BadVersion)?;
+    if image[0] != 5 || image[1] != 1 && image[1] != 2 {
+        return Err(KtOpenFault::BadVersion);
+    }
     if image.len() > limits.image() as usize {
         return Err(KtOpenFault::TooLarge);
     }
@@ -88,12 +67,17 @@ pub extern "C" fn krbf_kt_open(
 ) -> u32
     requires { kt.old.held ≡ None }
     ensures opens { OpensImage v1_big image.now (limit_of limit) result kt.new }
-    ensures memory { result ≡ 1 → IsKeytab v1_big image.now (limit_of limit) }
+    ensures memory { result ≡ 1 → IsSomeAnd (limit_of limit)
+        (λ limit. IsOk (open_result (order_of_flag v1_big) limit image.now)) }
 {
     let Some(limits) = limits_of(limit) else {
         return TOO_LARGE;
     };
-    let v1_order = order_of(v1_big);
+    let v1_order = if v1_big == 0 {
+        Order::Little
+    } else {
+        Order::Big
+    };
     if let Err(why) = look_at_front(image, v1_order, limits) {
         return of_kt_open(why);
     }
