@@ -5,6 +5,7 @@
 # make lib        proves and builds the C library, lib/libkrbfile.a and lib/libkrbfile.so.1, which c/*.h declare
 # make cards      writes a card of each kind of command line, as klist -k, with what its contract says, to bin/cards/
 # make samples    makes the files that README works on, in samples/
+# make pages      makes docs/pages, the manual pages as Markdown; it takes mandoc
 # make test       proves every crate from nothing, runs all tests, those of the program that this built too, and tries
 #                 the wrong bodies; afterwards the other targets prove nothing again
 # make long-test  runs the long tests of the program, on random and damaged files
@@ -13,9 +14,10 @@
 #                 BINDIR, LIBDIR, INCLUDEDIR, MANDIR, DATADIR, DOCDIR and PYTHONDIR say where. make uninstall removes it
 # make dist       packs the static program, the libraries, samples, examples and documents into
 #                 DIST/krbfile-VERSION-linux-x86_64.tar.gz; the same files give the same bytes, of SOURCE_DATE_EPOCH
-# make deb        packs what is built as Debian packages, in DIST
+# make deb        packs what is built as Debian packages, in DIST; make rpm as RPMs
 # make wheel      packs Python's module and the C library, in DIST; it takes python3-build and setuptools, no network
 # make clean      removes what is built here, but nothing that is proved
+# make help       shows these lines
 #
 # CC, CFLAGS, LDFLAGS and PYTHON are heard.
 
@@ -47,8 +49,7 @@ KIT = $(dir $(shell rt doc))
 SOURCES = crates.txt $(shell find crates/*/src crates/*/specs crates/*/proofs -type f)
 VERSION := $(shell sed -n 's/^const VERSION: &str = "\([^ "]*\).*/\1/p' crates/krb_command_line/src/command_lines.rt)
 NAME = krbfile-$(VERSION)-linux-x86_64
-PACKED = $(DIST)/$(NAME).tar.gz
-PARTS = $(PACKED).parts
+PARTS = $(DIST)/$(NAME).$@-parts
 ROOT = $(PARTS)/$(NAME)
 MODULE = $(wildcard python/krbfile/*.py) python/krbfile/py.typed
 DOCUMENTS = README.md CHANGELOG.md SECURITY.md
@@ -56,11 +57,10 @@ EXAMPLES = $(wildcard examples/*)
 # The pages that README names, and the calls that the library's manual page names.
 LINKED := CONTRIBUTING.md $(filter-out docs/%,$(shell grep -o '[a-z]*/[a-zA-Z_/]*\.md' README.md))
 CALLS := $(sort $(shell sed -n 's/^\.Fn \(krbf_[a-z_]*\).*/\1/p' docs/krbfile.3))
-PAGES = $(DOCUMENTS) $(wildcard docs/*) $(EXAMPLES) $(MODULE) $(LINKED) completions/generate $(HEADERS) \
-	c/krbfile.pc.in python/pyproject.toml.in tests/selftest
 
 .PHONY: all try check static lib cards samples test long-test install install-program install-lib install-python \
-	uninstall dist deb wheel clean
+	uninstall dist deb rpm wheel pack-dist pack-deb pack-rpm pack-wheel clean help
+.DELETE_ON_ERROR:
 
 all: $(PROGRAM)
 
@@ -86,11 +86,9 @@ $(ARCHIVE): $(SOURCES)
 
 # The calls and the C library's heap as one object, which shows the calls alone.
 lib/krbfile.o: $(ARCHIVE)
-	mkdir -p lib/parts
-	cd lib/parts && ar x ../../$(ARCHIVE) && ar x $(KIT)c/liblibc_c.a heap.pic.o
-	$(LD) -r -o $@ lib/parts/*.o
-	objcopy --wildcard --keep-global-symbol='krbf_*' $@
-	rm -r lib/parts
+	rm -rf lib/parts && mkdir -p lib/parts
+	trap 'rm -r lib/parts' EXIT; (cd lib/parts && ar x ../../$(ARCHIVE) && ar x $(KIT)c/liblibc_c.a heap.pic.o) && \
+		$(LD) -r -o $@ lib/parts/*.o && objcopy --wildcard --keep-global-symbol='krbf_*' $@
 
 # The calls that hold files by the program.
 lib/krbfile_files.o: c/krbfile_files.c $(HEADERS)
@@ -126,6 +124,13 @@ cards:
 
 samples:
 	tests/samples samples
+
+.PHONY: pages
+pages: $(patsubst docs/%,docs/pages/%.md,$(wildcard docs/krbfile.*))
+
+docs/pages/%.md: docs/%
+	mkdir -p $(@D)
+	page=$$(mandoc -T markdown -I os=krbfile $<) && printf '%s\n' "$$page" > $@
 
 # The programs and libraries that the gate leaves are what is tested, so each crate is proved once. The gate would put
 # libraries of earlier checks back in their place, and it takes no folder that holds a link. A program that it took
@@ -171,9 +176,10 @@ install-lib:
 	ln -sf libkrbfile.so.1 $(DESTDIR)$(LIBDIR)/libkrbfile.so
 	install -D -m 644 -t $(DESTDIR)$(MANDIR)/man3 docs/krbfile.3
 	for call in $(CALLS); do echo .so man3/krbfile.3 | $(call put,$(MANDIR)/man3/$$call.3) || exit 1; done
-	sed -e 's|@PREFIX@|$(or $(PREFIX),$${pcfiledir}/../..)|' -e 's|@LIBDIR@|$(LIBDIR:$(PREFIX)/%=$${prefix}/%)|' \
-		-e 's|@INCLUDEDIR@|$(INCLUDEDIR:$(PREFIX)/%=$${prefix}/%)|' -e 's|@VERSION@|$(VERSION)|' c/krbfile.pc.in | \
-		$(call put,$(LIBDIR)/pkgconfig/krbfile.pc)
+	text=$$(sed -e 's|@PREFIX@|$(or $(PREFIX),$${pcfiledir}/../..)|' -e 's|@VERSION@|$(VERSION)|' \
+		-e 's|@LIBDIR@|$(LIBDIR:$(PREFIX)/%=$${prefix}/%)|' \
+		-e 's|@INCLUDEDIR@|$(INCLUDEDIR:$(PREFIX)/%=$${prefix}/%)|' c/krbfile.pc.in) && \
+		echo "$$text" | $(call put,$(LIBDIR)/pkgconfig/krbfile.pc)
 
 install-python:
 	$(if $(PYTHONDIR),install -D -m 644 -t $(DESTDIR)$(PYTHONDIR)/krbfile $(MODULE))
@@ -194,11 +200,16 @@ define put_project
 	sed 's|@VERSION@|$(VERSION)|' python/pyproject.toml.in > $(1)/pyproject.toml
 endef
 
-dist: $(PACKED)
+# Packs in a folder of its own, and moves what is packed to DIST. If that fails, nothing is left.
+dist deb rpm wheel:
+	rm -rf $(PARTS) && mkdir -p $(PARTS)/packed
+	trap : INT TERM; $(MAKE) --no-print-directory pack-$@ PARTS=$(PARTS) || { rm -rf $(PARTS); exit 1; }
+	mv $(PARTS)/packed/* $(DIST); moved=$$?; rm -r $(PARTS); exit $$moved
+
+dist: $(STATIC) $(LIBRARY) $(SHARED)
 
 # With no PREFIX, pkg-config finds the library wherever the archive is unpacked.
-$(PACKED): $(STATIC) $(LIBRARY) $(SHARED) $(PAGES)
-	rm -rf $(PARTS)
+pack-dist:
 	$(MAKE) --no-print-directory install-program install-lib DESTDIR=$(ROOT) PREFIX= BINDIR=/bin LIBDIR=/lib \
 		INCLUDEDIR=/include DATADIR=/share MANDIR=/share/man DOCDIR=/share/doc/krbfile PROGRAM=$(STATIC)
 	$(call put_project,$(ROOT)/python)
@@ -206,28 +217,30 @@ $(PACKED): $(STATIC) $(LIBRARY) $(SHARED) $(PAGES)
 	ln -s include $(ROOT)/c
 	tests/samples $(ROOT)/samples
 	install -m 755 tests/selftest $(ROOT)
-	cd $(ROOT) && find * -type f | LC_ALL=C sort | xargs sha256sum > ../SHA256SUMS
-	mv $(PARTS)/SHA256SUMS $(ROOT)
+	cd $(ROOT) && find * -type f -exec sha256sum {} + > ../sums && LC_ALL=C sort -k 2 ../sums > SHA256SUMS
 	chmod -R u=rwX,go=rX $(ROOT) && chmod 600 $(ROOT)/samples/*
 	tar -C $(PARTS) --format=ustar --sort=name --owner=0 --group=0 --numeric-owner --mtime=@$(SOURCE_DATE_EPOCH) \
-		-I 'gzip -n' -cf $(PARTS)/packed $(NAME)
-	mv $(PARTS)/packed $@
-	rm -r $(PARTS)
+		-I 'gzip -n' -cf $(PARTS)/packed/$(NAME).tar.gz $(NAME)
 
-deb:
-	$(call need,$(PROGRAM),all)
-	$(call need,$(SHARED),lib)
-	packaging/deb $(VERSION) $(DIST)
+pack-deb:
+	packaging/deb $(VERSION) $(PARTS)
 
-wheel:
+pack-rpm:
+	rpmbuild -bb --quiet --build-in-place -D '_topdir $(abspath $(PARTS))' -D '_tmppath %_topdir' \
+		-D '_rpmdir %_topdir/packed' -D '_rpmfilename %%{NAME}-%%{VERSION}-%%{RELEASE}.%%{ARCH}.rpm' \
+		-D 'version_built $(VERSION)' packaging/krbfile.spec
+
+pack-wheel:
 	$(call need,$(SHARED),lib)
-	rm -rf $(PARTS)
-	$(call put_project,$(PARTS))
-	install -m 644 $(SHARED) $(PARTS)/krbfile
-	printf '[bdist_wheel]\nplat_name = linux_x86_64\n' > $(PARTS)/setup.cfg
-	$(PYTHON) -m build --wheel --no-isolation --outdir $(DIST) $(PARTS)
-	rm -r $(PARTS)
+	$(call put_project,$(PARTS)/project)
+	install -m 644 $(SHARED) $(PARTS)/project/krbfile
+	printf '[bdist_wheel]\nplat_name = linux_x86_64\n' > $(PARTS)/project/setup.cfg
+	$(PYTHON) -m build --wheel --no-isolation --outdir $(PARTS)/packed $(PARTS)/project
 
 clean:
-	rm -rf bin lib samples $(PARTS) $(PACKED) $(DIST)/krbfile-$(VERSION)-py3-none-linux_x86_64.whl
-	rm -f $(foreach name,krbfile libkrbfile1 libkrbfile-dev python3-krbfile,$(wildcard $(DIST)/$(name)_$(VERSION)*.deb))
+	rm -rf bin lib samples $(DIST)/$(NAME).tar.gz $(DIST)/$(NAME).*-parts
+	rm -f $(foreach name,krbfile krbfile-devel libkrbfile* python3-krbfile,$(foreach kind,deb rpm whl, \
+		$(DIST)/$(name)[_-]$(VERSION)[_-]*.$(kind)))
+
+help:
+	@sed -n '/^$$/q; s/^# \?//p' Makefile

@@ -1,22 +1,20 @@
 """What packagers use: `make dist` packs the same bytes each time, and the archive tries itself in a root of its own;
-`make install` puts each file where its readers look, and `uninstall` takes it away; Debian's packages are installed and
-removed; the wheel has what it needs. The static program runs in a root without a C library."""
+`make install` puts each file where its readers look, and `uninstall` takes it away; Debian's packages and RPMs are
+installed and removed; the wheel has what it needs; a target that fails leaves nothing, and `make help` has them all."""
 
 import os
 import re
 import shutil
 import tarfile
 import zipfile
+from functools import partial
 from pathlib import Path
 
-from keytabs.listings import sample
-from makers.images import TWO
 from pages.documents import read
-from runs.harness import TOP, Outcome, Report, every, files_in, folder_of, message, run
+from runs.harness import TOP, Outcome, Report, every, files_in, folder_of, run
 from runs.system_calls import UNSHARE, no_mounts
 
 BUILT = ("bin/krbfile-static", "lib/libkrbfile.a", "lib/libkrbfile.so.1")  # what is built and packed
-LINKED = (BUILT[0], BUILT[2])  # what is linked here
 
 # What is installed, but for the pages of calls, the examples and Python's module: into folders that are all given.
 FOLDERS = {name: f"/{name}" for name in ("BINDIR", "LIBDIR", "INCLUDEDIR", "MANDIR", "DATADIR", "DOCDIR", "PYTHONDIR")}
@@ -26,10 +24,11 @@ INSTALLED = """BINDIR/krbfile INCLUDEDIR/krbfile.h INCLUDEDIR/krbfile_files.h LI
     MANDIR/man1/krbfile.1 MANDIR/man3/krbfile.3 MANDIR/man3/krbf_kt_open.3 MANDIR/man5/krbfile.5 PYTHONDIR/krbfile/py.typed"""
 
 EPOCH = 1_700_000_000  # the time that a packager gives
-STATIC = os.path.join(TOP, BUILT[0])
 
-ROWS = {("klist", "-kt", "/k"): Outcome(0, sample("t").replace(b"FILE:k\n", b"FILE:/k\n")),
-        ("klist", "-k", "/x"): message(1, "/x: no such file")}
+# What installs packages and removes them, in a root, whatever they depend on. The tools that pack, one of each target.
+MANAGERS = {"deb": (("dpkg", "--force-depends", "--log=/dev/null"), "-i", "--purge"),
+            "rpm": (("rpm", "--nodeps", "--dbpath=/db"), "-i", "-e")}
+PACKERS = {"dist": "tar", "deb": "dpkg-deb", "rpm": "rpmbuild", "wheel": "python3"}
 
 
 def made(*words: str, umask: int = 0o022) -> list[str]:
@@ -38,15 +37,6 @@ def made(*words: str, umask: int = 0o022) -> list[str]:
     old = (f"-o{name}" for name in BUILT)
     done = run("make", (*old, *words), TOP, env={**env, "SOURCE_DATE_EPOCH": f"{EPOCH}"}, umask=umask)
     return [f"{done}"] if done.status else []
-
-
-def check_static(report: Report, _program: str) -> None:
-    """Makes the runs of the static program."""
-    with folder_of({"k": TWO}) as root:
-        shutil.copy(STATIC, root)
-        for words, wanted in ROWS.items():
-            first, *rest = (*UNSHARE, "chroot", root, "/krbfile-static", *words)
-            report.compare(f"the static program alone: {words}", wanted, run(first, rest, root))
 
 
 def selftest(top: str) -> Outcome:
@@ -93,22 +83,39 @@ def check_installed(report: Report, program: str) -> None:
         report.check("nothing is built for it", [] if made(*words, "PROGRAM=no", "install") else ["it is installed"])
 
 
-def check_debian(report: Report, program: str) -> None:
-    """Builds Debian's packages twice, and installs and removes them in a root of its own."""
+def check_targets(report: Report, _program: str) -> None:
+    """Finds each target in the help, and lets a tool of each that packs fail, which leaves nothing."""
+    (targets,) = re.findall(r"^\.PHONY: ((?:.*\\\n)*.*)", read("Makefile"), re.MULTILINE)
+    named, words = (re.findall(r"[\w-]+", text) for text in (targets, run("make", ("help",), TOP).out.decode()))
+    report.check("make help", [name for name in named if name not in words and not name.startswith("pack-")])
+    for target, tool in PACKERS.items():
+        with folder_of({}) as folder, folder_of({tool: b"#!/bin/sh\nexit 1\n"}) as tools:
+            os.chmod(os.path.join(tools, tool), 0o755)
+            faults = made(f"DIST={folder}", f"PATH={tools}:{os.environ['PATH']}", target)
+            report.check(f"{target} without {tool}", ["it packs"] * (not faults) + os.listdir(folder))
+
+
+def check_packages(report: Report, program: str, kind: str) -> None:
+    """Builds packages of a kind twice, and installs and removes them in a root of its own."""
+    (manager, *options), install, remove = MANAGERS[kind]
     with folder_of({}) as one, folder_of({}) as two, folder_of({}) as root:
         for folder, umask in ((one, 0o022), (two, 0o077)):
-            report.check("make deb", made(f"PROGRAM={program}", f"DIST={folder}", "deb", umask=umask))
-        report.check("the packages", [] if files_in(one) == files_in(two) else ["differ"])
+            report.check(f"make {kind}", made(f"PROGRAM={program}", f"DIST={folder}", kind, umask=umask))
+        report.check(f"each {kind}", [] if files_in(one) == files_in(two) else ["differs"])
+        if kind == "deb" and shutil.which("lintian"):
+            got = run("lintian", os.listdir(one), one)
+            report.check("lintian", [f"{got}"] * (got.status != 0))
+        elif kind == "deb":
+            report.skip("lintian", "it is not there")
         os.makedirs(os.path.join(root, "var/lib/dpkg/updates"))
         Path(root, "var/lib/dpkg/status").touch()
-        names = sorted(name.partition("_")[0] for name in os.listdir(one))
-        first, *words = (*UNSHARE, "dpkg", f"--root={root}", "--force-depends", "--log=/dev/null")
-        got = run(first, (*words, "-i", *(os.path.join(one, name) for name in os.listdir(one))), root)
-        report.check("they are installed", [f"{got}"] * (got.status != 0))
-        report.compare("their program", Outcome(1, b"empty\nentries 0 free 0 holes 0\n"), run(
+        first, *words = (*UNSHARE, manager, f"--root={root}", *options)
+        got = run(first, (*words, install, *(os.path.join(one, name) for name in os.listdir(one))), root)
+        report.check(f"each {kind} is installed", [f"{got}"] * (got.status != 0))
+        report.compare(f"the program of {kind}", Outcome(1, b"empty\nentries 0 free 0 holes 0\n"), run(
             "sh", ("-c", "printf '\\5\\2' | usr/bin/krbfile ktcheck /dev/stdin"), root))
-        got = run(first, (*words, "--purge", *names), root)
-        report.check("they are removed", [f"{got}"] * (got.status != 0) + [*Path(root, "usr").rglob("*")])
+        got = run(first, (*words, remove, *(re.split(r"_|-\d", name)[0] for name in os.listdir(one))), root)
+        report.check(f"each {kind} is removed", [f"{got}"] * (got.status != 0) + [*Path(root, "usr").rglob("*krbf*")])
 
 
 def check_wheel(report: Report, _program: str) -> None:
@@ -125,23 +132,23 @@ def check_wheel(report: Report, _program: str) -> None:
         report.compare("its library", Outcome(0, b"krbfile/libkrbfile.so.1\n"), run("python3", ("-c", found), folder))
 
 
-def check_hardened(report: Report, _program: str) -> None:
-    """Checks that all symbols are bound at the start of what is linked here."""
-    for name in LINKED:
-        got = run("readelf", ("-d", os.path.join(TOP, name)), TOP)
-        report.check(f"{name} is bound at once", [] if re.search(rb"FLAGS_1.*\bNOW\b", got.out) else [f"{got}"])
+def check_linked(report: Report, _program: str) -> None:
+    """Checks that what is linked here binds all symbols at the start, and that the static program needs no library."""
+    for name, has_needs in ((BUILT[0], False), (BUILT[2], True)):
+        got = run("readelf", ("-dlW", os.path.join(TOP, name)), TOP)
+        is_right = re.search(rb"FLAGS_1.*\bNOW\b", got.out) and bool(re.search(rb"NEEDED|INTERP", got.out)) == has_needs
+        report.check(f"how {name} is linked", [] if is_right else [f"{got}"])
 
 
-def not_built() -> str:
-    """Returns that not all is built, or nothing."""
-    missing = [name for name in BUILT if not os.path.exists(os.path.join(TOP, name))]
+def not_built(names: tuple[str, ...] = BUILT) -> str:
+    """Returns that not all of these is built, or nothing."""
+    missing = [name for name in names if not os.path.exists(os.path.join(TOP, name))]
     return f"{missing[0]} is not there: make static lib builds it" if missing else ""
 
 
-check = every(every(check_static, of="the static program", needs=(STATIC,), lack=no_mounts),
-              every(check_hardened, of="how it is linked", needs=("readelf",), lack=not_built),
-              every(check_packed, check_installed, of="the archive", needs=("make",), lack=not_built),
-              every(check_debian, of="Debian's packages", needs=("make", "dpkg-deb"),
-                    lack=lambda: not_built() or no_mounts()),
+check = every(every(check_linked, of="how it is linked", needs=("readelf",), lack=not_built),
+              every(check_packed, check_installed, check_targets, of="the archive", needs=("make",), lack=not_built),
+              *(every(partial(check_packages, kind=kind), of=f"each {kind}", needs=("make", PACKERS[kind]),
+                      lack=lambda: not_built(BUILT[1:]) or no_mounts()) for kind in MANAGERS),
               every(check_wheel, of="the wheel", needs=("make",), lack=lambda: "python3-build is not there" * (
                   run("/usr/bin/python3", ("-m", "build", "--version"), TOP).status != 0)))
