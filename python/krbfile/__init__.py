@@ -35,6 +35,6 @@ from krbfile.library import ETYPES, KrbfileError, NotFound
 __all__ = ["Cache", "ETYPES", "Entry", "Finding", "Keytab", "KrbfileError", "LostChange", "NotFound", "PROGRAM",
            "Ticket", "UnknownSave", "edit_cache", "edit_keytab"]
 
-__version__ = "1.0"
+__version__ = "2.0"
 
 PROGRAM: AnyPath | None = None  # the path of the program, unless it is to be found elsewhere

@@ -19,7 +19,7 @@ RECIPE = re.compile(r"^### ([^,\n]*).*\n((?s:.*?))(?=^##)", re.MULTILINE)
 FILES = re.compile(r"`((?:crates|docs|examples|python|tests)/[^` ]+|[A-Z]+\.md)`")  # a file or some, from the top
 
 # Where the examples of recipes are looked for, and how they are named.
-SOURCES = ("*.md", "docs/*", "examples/*", "python/*/*.py", "crates/*/CALLING.md", "crates/*/src/**/*.rt",
+SOURCES = ("*.md", "docs/*.*", "examples/*", "python/*/*.py", "crates/*/CALLING.md", "crates/*/src/**/*.rt",
            "crates/*/specs/*.antt", "crates/samples/proofs/*.antt", "tests/*/*.py")
 EXAMPLES = {"A command": r"(?i)ktdiff", "An option": r'--age\b|"age\b', "A column of show": r"\bSESSION\b",
             "A mistake in a command line": r"(?i)\bonly_with\b", "An encryption type": "camellia256"}

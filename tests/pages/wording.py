@@ -1,19 +1,24 @@
 """The phrases of the definitions and of Python's module are those of the pages. The manual page has the commands and
-options that help lists, and mandoc finds nothing wrong with it."""
+options that help lists, mandoc and groff find nothing wrong with the manual pages, and docs/pages has their Markdown."""
 
+import os
 import re
 import shutil
 from collections.abc import Iterator
 
 from computed.terms import spellings
-from pages.documents import sources
+from pages.documents import read, sources
 from runs.commands import COMMANDS
-from runs.harness import TOP, Report, run
+from runs.harness import TOP, Outcome, Report, run
 from words import phrases
 from words.command_lines import helped, offered
 from words.mistakes import MISTAKES, NEAR
 
 PAGES = ("docs/krbfile.1", "docs/krbfile.5", "docs/krbfile.3")
+
+# What reads the manual pages: the first two find nothing wrong, and the last prints what make pages wrote.
+OF_PAGES = {"mandoc": "mandoc -Tlint -Wwarning", "groff": "groff -mandoc -Tutf8 -ww -z",
+            "Markdown": "mandoc -Tmarkdown -Ios=krbfile"}
 
 
 def usage_of(block: str) -> str:
@@ -80,11 +85,14 @@ def of_sources() -> Iterator[tuple[str, set[object]]]:
 
 
 def check(report: Report, program: str) -> None:
-    """Reads the pages, the definitions, the module and help; mandoc reads the manual pages."""
+    """Reads the pages, the definitions, the module and help; mandoc and groff read the manual pages."""
     for name, wrong in (*of_manual(program), *of_mistakes(), *of_sources()):
         report.check(name, sorted(map(str, wrong)))
-    if shutil.which("mandoc") is None:
-        report.skip("the form of the manual pages", "mandoc is not there")
-    else:
-        linted = run("mandoc", ("-Tlint", "-Wwarning", *PAGES), TOP)
-        report.check("the form of the manual pages", linted.out.decode().splitlines())
+    for name, command in OF_PAGES.items():
+        reader, *options = command.split()
+        if shutil.which(reader) is None:
+            report.skip(f"the manual pages: {name}", f"{reader} is not there")
+            continue
+        for page in PAGES:
+            out = read(f"docs/pages/{os.path.basename(page)}.md") if name == "Markdown" else ""
+            report.compare(f"{name}: {page}", Outcome(0, out.encode()), run(reader, (*options, page), TOP))

@@ -118,7 +118,7 @@ CASES = [
       for letters in ("", "t", "e", "K", "te", "tK", "Ke", "tKe")),
     # A keytab is not a cache and a cache not a keytab; -e is an option of both.
     case("klist -e k", message(1, "k: not a cache (2)")), case("klist -ke c", message(1, "c: not a keytab (2)")),
-    case("--version", printed(f"krbfile 1.0 (rattle {TOOLCHAIN})")),
+    case("--version", printed(f"krbfile 2.0 (rattle {TOOLCHAIN})")),
 ]
 
 

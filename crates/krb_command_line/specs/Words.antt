@@ -45,7 +45,6 @@ abbrev pub command_of : Command → List (String Global) → Option Command
 command_of krbfile [] = None
 command_of krbfile (name ∷ words) = if bytes_eq (string_bytes name) (codes "help") then None else command_named krbfile (string_bytes name)
 
--- the mistake in the words behind `help`
 abbrev pub mistake_of_help : Command → List (String Global) → MistakeParts
 mistake_of_help krbfile [] = without_command
 mistake_of_help krbfile (word ∷ []) = no_command (string_bytes word)
@@ -56,7 +55,6 @@ mistake_of_help krbfile (name ∷ other ∷ words) = if is_some (command_named k
 abbrev pub is_of_name : List ℕ → Arg → Bool
 is_of_name name option = option_map_or (λ long. bytes_eq long.now name) option.long false
 
--- each use of an argument adds a value
 abbrev pub is_append : ArgAction → Bool
 is_append Append = true
 is_append action = false
@@ -81,7 +79,6 @@ with_value takes = None
 abbrev pub wants_long : List Arg → List ℕ → Option Bool
 wants_long options word = if nat_lt (position_or_len is_equals word) (length word) then with_value (takes_long_value options (before_first is_equals word)) else takes_long_value options word
 
--- an argument is an operand
 abbrev pub is_operand : Arg → Bool
 is_operand arg = not (is_some arg.long) && not (is_some arg.short)
 
@@ -93,7 +90,6 @@ with_operand args count word = if nat_lt count (length (filter is_operand args))
 abbrev pub missing_operand : List Arg → ℕ → Option (List ℕ)
 missing_operand args count = option_map (λ arg. arg.id.now) (find (λ arg. arg.required) (drop count (filter is_operand args)))
 
--- an option has that letter
 abbrev pub is_of_letter : ℕ → Arg → Bool
 is_of_letter letter option = option_map_or (λ short. short == letter) option.short false
 
@@ -110,7 +106,6 @@ abbrev pub value_in : List Arg → List ℕ → List ℕ → Result (Option (Lis
 value_in options word [] = Ok None
 value_in options word (letter ∷ letters) = option_map_or (λ takes. if takes then Ok (Some (encode_utf8_all letters)) else value_in options word letters) (takes_letter_value options letter) (Err (unknown_letter word letter))
 
--- the value in a bundle of options
 abbrev pub bundled_value : List Arg → List ℕ → Result (Option (List ℕ)) MistakeParts
 bundled_value options word = if starts_with nat_eq word (codes "-") then value_in options word (chars (drop 1 word)) else Ok None
 
@@ -119,7 +114,6 @@ abbrev pub is_empty : Option (List ℕ) → Bool
 is_empty (Some []) = true
 is_empty value = false
 
--- a word is a long option
 abbrev pub is_long : List ℕ → Bool
 is_long word = starts_with nat_eq word (codes "--")
 
@@ -151,7 +145,6 @@ abbrev pub mistake_after : List Arg → Place → List ℕ → List (String Glob
 mistake_after args place last [] = missing_after args place last
 mistake_after args place last (word ∷ words) = first_mistake (λ next. mistake_after args next (string_bytes word) words) (read_word args place last (string_bytes word))
 
--- the first mistake in the words behind a command
 abbrev pub mistake_behind : List Arg → List (String Global) → MistakeParts
 mistake_behind args words = mistake_after args (Any 0) [] words
 

@@ -28,7 +28,6 @@ fn no_command(word: &str) -> Mistake<'_>
     }
 }
 
-// Returns the command of that name.
 fn command_named<'k, 'a>(krbfile: &'k Command<'a>, name: &str) -> Option<&'k Command<'a>>
     ensures { option_copied result ≡ command_named krbfile.now name.now }
 {
@@ -48,7 +47,6 @@ pub fn command_of<'k, 'a>(krbfile: &'k Command<'a>, words: &[String]) -> Option<
     }
 }
 
-// Returns the mistake in the words after `help`.
 fn mistake_of_help<'a>(krbfile: &Command<'a>, words: &'a [String]) -> Mistake<'a>
     ensures { mistake_parts result ≡ mistake_of_help krbfile.now words.now }
 {

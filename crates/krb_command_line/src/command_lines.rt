@@ -5,7 +5,7 @@ use krb_driver::{CommandWords, Word};
 use std::alloc::{AllocError, Global};
 
 /// The version, and the toolchain that proves and compiles it.
-const VERSION: &str = "1.0 (rattle logic dac8208d650f15bf)";
+const VERSION: &str = "2.0 (rattle logic dac8208d650f15bf)";
 
 fn operands<'a>(alloc: Global, name: &'static str, help: &'static str) -> Arg<'a> {
     Arg::new(alloc, name)
@@ -64,15 +64,6 @@ fn explain<'a>(alloc: Global) -> Arg<'a> {
     )
 }
 
-// Returns the program's command without subcommands.
-fn top_command<'a>(alloc: Global) -> Result<Command<'a>, AllocError> {
-    Command::new(alloc, "krbfile")
-        .version(VERSION)
-        .about("Lists and edits Kerberos keytabs and credential caches")
-        .subcommand_required(true)
-        .arg(explain(alloc))
-}
-
 /// Returns the command lines of the commands: if the word is a command's name, only that command's, so that a run does
 /// not build the others, and otherwise all.
 pub fn krbfile_command<'a>(
@@ -80,7 +71,11 @@ pub fn krbfile_command<'a>(
     lines: &[CommandWords],
     word: Option<&str>,
 ) -> Result<Command<'a>, AllocError> {
-    let mut krbfile = top_command(alloc)?;
+    let mut krbfile = Command::new(alloc, "krbfile")
+        .version(VERSION)
+        .about("Lists and edits Kerberos keytabs and credential caches")
+        .subcommand_required(true)
+        .arg(explain(alloc))?;
     let is_alone = lines.iter().any(|line| word == Some(line.name));
     for line in lines {
         if !is_alone || word == Some(line.name) {

@@ -10,15 +10,12 @@ use krb_driver::More;
 use std::alloc::{AllocError, Global};
 use strsim::osa_distance;
 
-/// The distance from which on a word is too far from a name.
-const FAR: usize = 3;
-
 // Returns the name that is nearer to a word than every other, and not far from it.
 fn nearest<'a>(alloc: Global, word: &str, names: &[&'a str]) -> Result<Option<&'a str>, AllocError>
     ensures { IfOk result (λ found. found ≡ nearest word.now names.now) }
 {
     let mut found = None;
-    let mut least = FAR;
+    let mut least = 3; // from there on a word is too far
     for name in names {
         let distance = osa_distance(alloc, word, *name)?;
         if distance < least {

@@ -61,7 +61,6 @@ pub fn wants_value<'a>(options: &[Arg<'_>], word: &'a str) -> Result<bool, Mista
     }
 }
 
-// Returns whether some operand takes many words.
 fn takes_many(args: &[Arg<'_>]) -> bool
     ensures { result ≡ list_any (λ arg. is_operand arg && takes_values arg) args.now }
 {

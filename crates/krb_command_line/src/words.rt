@@ -48,17 +48,11 @@ impl<'a> Matches<'a> for Matched<'a> {
     } };
 
     fn flag(&self, name: &str) -> bool {
-        match self.found.get_str(name) {
-            Some(word) => word == "true",
-            None => false,
-        }
+        self.found.get_str(name).is_some_and(|word| word == "true")
     }
 
     fn operand(&self, name: &str) -> &'a str {
-        match self.found.get_str(name) {
-            Some(word) => word,
-            None => "",
-        }
+        self.found.get_str(name).unwrap_or("")
     }
 
     fn values(&self, name: &str) -> &[&'a str] {
