@@ -85,7 +85,7 @@ def check_installed(report: Report, program: str) -> None:
 
 def check_targets(report: Report, _program: str) -> None:
     """Finds each target in the help, and lets a tool of each that packs fail, which leaves nothing."""
-    (targets,) = re.findall(r"^\.PHONY: ((?:.*\\\n)*.*)", read("Makefile"), re.MULTILINE)
+    targets = " ".join(re.findall(r"^\.PHONY: ((?:.*\\\n)*.*)", read("Makefile"), re.MULTILINE))
     named, words = (re.findall(r"[\w-]+", text) for text in (targets, run("make", ("help",), TOP).out.decode()))
     report.check("make help", [name for name in named if name not in words and not name.startswith("pack-")])
     for target, tool in PACKERS.items():
